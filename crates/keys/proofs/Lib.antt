@@ -1,0 +1,4 @@
+pub mod Alike
+pub mod Lexes
+pub mod Orders
+pub mod Spares

@@ -1,0 +1,2 @@
+//! The refusals: what every call returns instead of a result.
+pub mod refusal;
