@@ -1,2 +1,3 @@
 pub mod Falls
 pub mod Sorteds
+pub mod Spans

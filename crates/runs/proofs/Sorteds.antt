@@ -75,7 +75,7 @@ module _ {K T : Type 0} {cmp : K → K → Ordering} (laws : Laws cmp) (spans : 
   none-passed e r key x (t ∷ ts) n a = count-no (passed cmp spans e r key) t ts (reach-falls r key x (end-of e (spans t)) (a .0) n) ∙ none-passed e r key x ts n (a .1)
 
   -- an end of a table lies before each later table's
-  end-behind : (t : T) (ts : List T) → sorted cmp spans (t ∷ ts) ≡ true → (e : End) → All (λ u. isLt (cmp (end-of e (spans t)) (end-of e (spans u))) ≡ true) ts
+  pub end-behind : (t : T) (ts : List T) → sorted cmp spans (t ∷ ts) ≡ true → (e : End) → All (λ u. isLt (cmp (end-of e (spans t)) (end-of e (spans u))) ≡ true) ts
   end-behind t ts q Max =
       let s = and-parts _ _ q in
       let r = and-parts _ _ (s .1) in
@@ -85,7 +85,7 @@ module _ {K T : Type 0} {cmp : K → K → Ordering} (laws : Laws cmp) (spans : 
       let r = and-parts _ _ (s .1) in
       behind (spans t .min) ts (under (spans t .min) (spans t .max) ts (not-true _ (s .0)) (r .0)) (r .1) Min
 
-  sorted-rest : (t : T) (ts : List T) → sorted cmp spans (t ∷ ts) ≡ true → sorted cmp spans ts ≡ true
+  pub sorted-rest : (t : T) (ts : List T) → sorted cmp spans (t ∷ ts) ≡ true → sorted cmp spans ts ≡ true
   sorted-rest t ts q =
       let s = and-parts (not (isLt (cmp (spans t .max) (spans t .min)))) (apart cmp spans (spans t .max) ts && sorted cmp spans ts) q in
       and-parts (apart cmp spans (spans t .max) ts) (sorted cmp spans ts) (s .1) .1
@@ -103,17 +103,17 @@ module _ {K T : Type 0} {cmp : K → K → Ordering} (laws : Laws cmp) (spans : 
   counted : (p q : T → Bool) → Falls p ts → Falls q ts → place ≡ countBy p ts → end ≡ countBy q ts → handed at us ≡ handed (countBy p ts) (kept-by (λ t. not (p t) && q t) ts)
   counted p q fp fq ep eq =
       let cut : take (end - place) (drop place ts) ≡ take (countBy q ts - countBy p ts) (drop (countBy p ts) ts) =
-        ap (λ n. take (n - place) (drop place ts)) eq ∙ ap (λ n. take (countBy q ts - n) (drop n ts)) ep in
+      ap (λ n. take (n - place) (drop place ts)) eq ∙ ap (λ n. take (countBy q ts - n) (drop n ts)) ep in
       ap (λ n. handed n us) (is-place ∙ ep) ∙ ap (handed (countBy p ts)) (is-cut ∙ cut ∙ sym (kept-between p q ts fp fq))
 
   pub is-overlapping : place ≡ countBy (passed cmp spans Max Before (range .min)) ts → end ≡ countBy (passed cmp spans Min UpTo (range .max)) ts
-    → _≡_ {A = Result (Part T) Refusal} (Ok (record { place = at; tables = us })) (overlapping cmp spans range ts)
+      → _≡_ {A = Result (Part T) Refusal} (Ok (record { place = at; tables = us })) (overlapping cmp spans range ts)
   is-overlapping ep eq =
       counted (passed cmp spans Max Before (range .min)) (passed cmp spans Min UpTo (range .max)) (sorted-falls laws spans Max Before (range .min) ts ok) (sorted-falls laws spans Min UpTo (range .max) ts ok) ep eq
       ∙ sym (ap (λ b. cond b (handed (countBy (λ t. isLt (cmp (spans t .max) (range .min))) ts) (kept-by (λ t. meets cmp (spans t) range) ts)) (Err NotSound)) ok)
 
   pub is-contained : place ≡ countBy (passed cmp spans Min Before (range .min)) ts → end ≡ countBy (passed cmp spans Max UpTo (range .max)) ts
-    → _≡_ {A = Result (Part T) Refusal} (Ok (record { place = at; tables = us })) (contained cmp spans range ts)
+      → _≡_ {A = Result (Part T) Refusal} (Ok (record { place = at; tables = us })) (contained cmp spans range ts)
   is-contained ep eq =
       counted (passed cmp spans Min Before (range .min)) (passed cmp spans Max UpTo (range .max)) (sorted-falls laws spans Min Before (range .min) ts ok) (sorted-falls laws spans Max UpTo (range .max) ts ok) ep eq
       ∙ sym (ap (λ b. cond b (handed (countBy (λ t. isLt (cmp (spans t .min) (range .min))) ts) (kept-by (λ t. inside cmp range (spans t)) ts)) (Err NotSound)) ok)

@@ -42,15 +42,15 @@ module _ {K T : Type 0} (cmp : K → K → Ordering) (spans : T → KeyRange K) 
   abbrev pub overlapping : KeyRange K → List T → Result (Part T) Refusal
   overlapping range ts =
       cond (sorted ts)
-        (Ok (record { place = countBy (λ t. isLt (cmp (spans t .max) (range .min))) ts; tables = kept-by (λ t. meets cmp (spans t) range) ts }))
-        (Err NotSound)
+      (Ok (record { place = countBy (λ t. isLt (cmp (spans t .max) (range .min))) ts; tables = kept-by (λ t. meets cmp (spans t) range) ts }))
+      (Err NotSound)
 
   -- the tables inside the range, behind those that begin before it does
   abbrev pub contained : KeyRange K → List T → Result (Part T) Refusal
   contained range ts =
       cond (sorted ts)
-        (Ok (record { place = countBy (λ t. isLt (cmp (spans t .min) (range .min))) ts; tables = kept-by (λ t. inside cmp range (spans t)) ts }))
-        (Err NotSound)
+      (Ok (record { place = countBy (λ t. isLt (cmp (spans t .min) (range .min))) ts; tables = kept-by (λ t. inside cmp range (spans t)) ts }))
+      (Err NotSound)
 
   -- the span of a range and some tables
   abbrev pub widened : KeyRange K → List T → KeyRange K

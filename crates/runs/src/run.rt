@@ -73,7 +73,10 @@ impl<'a, T: Ranged> Run<'a, T> {
         }
         let first = self.tables[0].key_range();
         let last = self.tables[self.tables.len() - 1].key_range();
-        Ok(Some(KeyRange { min: first.min, max: last.max }))
+        Ok(Some(KeyRange {
+            min: first.min,
+            max: last.max,
+        }))
     }
 }
 

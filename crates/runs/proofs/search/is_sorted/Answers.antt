@@ -25,12 +25,12 @@ pub loop-i-again : need.loop-i-again
 loop-i-again g c =
     let s = sorted-at (g .Key·KeyKind .ranks) (g .T·Ranged .spans) (c .args .tables .now) (c .loop-i .i) (c .index-tables-i .result) (omega arith) (c .index-tables-i .is) in
     elim (c .if-i-tables .came) [
-      then-i-tables·else-not-is-lt w ↦
-        let a = apart-at (g .Key·KeyKind .ranks) (g .T·Ranged .spans) (c .args .tables .now) (c .loop-i .i) (c .index-tables-i .result) (omega arith) (c .index-tables-i .is) (w .index-tables-i-then-i-tables .result) (omega arith) (w .index-tables-i-then-i-tables .is) in
-        grind (arith, s, a, c .loop-i .inv)
-    | else-i-tables w ↦
-        let a = apart-end (g .Key·KeyKind .ranks) (g .T·Ranged .spans) (c .args .tables .now) (c .loop-i .i) (c .index-tables-i .result) (omega arith) (c .index-tables-i .is) (omega arith) in
-        grind (arith, s, a, c .loop-i .inv)
+      | then-i-tables·else-not-is-lt w ↦
+          let a = apart-at (g .Key·KeyKind .ranks) (g .T·Ranged .spans) (c .args .tables .now) (c .loop-i .i) (c .index-tables-i .result) (omega arith) (c .index-tables-i .is) (w .index-tables-i-then-i-tables .result) (omega arith) (w .index-tables-i-then-i-tables .is) in
+          grind (arith, s, a, c .loop-i .inv)
+      | else-i-tables w ↦
+          let a = apart-end (g .Key·KeyKind .ranks) (g .T·Ranged .spans) (c .args .tables .now) (c .loop-i .i) (c .index-tables-i .result) (omega arith) (c .index-tables-i .is) (omega arith) in
+          grind (arith, s, a, c .loop-i .inv)
     ]
 
 pub returns : need.returns
