@@ -1,3 +1,4 @@
+pub mod Alike
 pub mod Falls
 pub mod Sorteds
 pub mod Spans
