@@ -10,7 +10,7 @@ use Rattle.refusals.specs.declared.refusal.Refusal.{Refusal}
 use Rattle.keys.specs.declared.key_range.KeyRange.{KeyRange}
 use Rattle.keys.specs.Pairing.{Both, Twin-range}
 use Rattle.runs.specs.declared.table.Table.{Table}
-use Rattle.runs.specs.declared.table.Fresh.{Fresh}
+use Rattle.runs.specs.declared.fresh.Fresh.{Fresh}
 use Rattle.runs.specs.Run.{Part}
 
 module _ {A B : Type 0} (R : A → B → Type 0) where

@@ -1,4 +1,4 @@
-//! Standing tables, and tables that are to come in.
+//! A standing table.
 ghost use mathlib.Core.Path.{_≡_};
 use crate::ranged::Ranged;
 use crate::ranged::TableFile;
@@ -23,16 +23,6 @@ pub struct Table<K> {
     pub linked: u64,
 }
 
-/// A merge's output, or a table to land: it has no level and no run yet.
-#[derive(Clone, Copy)]
-pub struct Fresh<K> {
-    pub number: u64,
-    pub range: KeyRange<K>,
-    pub size: u64,
-    pub created: u64,
-    pub linked: u64,
-}
-
 pub impl<K: KeyKind> Ranged for Table<K> as TableRanged {
     type Key = K;
 
@@ -44,30 +34,6 @@ pub impl<K: KeyKind> Ranged for Table<K> as TableRanged {
 }
 
 pub impl<K: KeyKind> TableFile for Table<K> as TableTableFile {
-    ghost named = { λ t. t .number };
-
-    ghost bytes = { λ t. t .size };
-
-    fn id(&self) -> u64 {
-        self.number
-    }
-
-    fn file_size(&self) -> u64 {
-        self.size
-    }
-}
-
-pub impl<K: KeyKind> Ranged for Fresh<K> as FreshRanged {
-    type Key = K;
-
-    ghost spans = { λ t. t .range };
-
-    fn key_range(&self) -> &KeyRange<K> {
-        &self.range
-    }
-}
-
-pub impl<K: KeyKind> TableFile for Fresh<K> as FreshTableFile {
     ghost named = { λ t. t .number };
 
     ghost bytes = { λ t. t .size };

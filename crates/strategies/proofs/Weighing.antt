@@ -41,7 +41,7 @@ module _ {K : Type 0} (p : Table K → Bool) (ts : List (Table K)) where
     pub weigh-yes : t .size ≤ left → p t ≡ true → Weighing (left - t .size) (count + 1) (bytes + t .size) (i + 1)
     weigh-yes le e =
         let kept : kept-by p (drop i ts) ≡ t ∷ kept-by p (drop (i + 1) ts) =
-              ap (kept-by p) rest ∙ ap (λ b. cond b (t ∷ kept-by p (drop (i + 1) ts)) (kept-by p (drop (i + 1) ts))) e in
+        ap (kept-by p) rest ∙ ap (λ b. cond b (t ∷ kept-by p (drop (i + 1) ts)) (kept-by p (drop (i + 1) ts))) e in
         let size = ap size-of kept ∙ sumBy-cons (λ u. u .size) t (kept-by p (drop (i + 1) ts)) in
         record {
           limit = omega (arith, h .limit, size-rest);
@@ -54,7 +54,7 @@ module _ {K : Type 0} (p : Table K → Bool) (ts : List (Table K)) where
     pub weigh-not : t .size ≤ left → p t ≡ false → Weighing (left - t .size) count bytes (i + 1)
     weigh-not le e =
         let kept : kept-by p (drop i ts) ≡ kept-by p (drop (i + 1) ts) =
-              ap (kept-by p) rest ∙ ap (λ b. cond b (t ∷ kept-by p (drop (i + 1) ts)) (kept-by p (drop (i + 1) ts))) e in
+        ap (kept-by p) rest ∙ ap (λ b. cond b (t ∷ kept-by p (drop (i + 1) ts)) (kept-by p (drop (i + 1) ts))) e in
         record {
           limit = omega (arith, h .limit, size-rest);
           counted = omega (arith, h .counted, ap length kept);

@@ -41,8 +41,8 @@ module _ {K : Type 0} (p : Table K → Bool) (ts : List (Table K)) (ids : List �
         let one : drop (at + 1) now′ ≡ drop (at + 1) ids = sym (drop-drop 1 at now′) ∙ (ap (drop 1) (h .rest) ∙ drop-drop 1 at ids) in
         record {
           front =
-            ap (λ l. l ++ numbers-of (kept-by p (drop (i + 1) ts))) (take-more-set now′ at (t .number) lt)
-            ∙ (append-assoc (take at now′) (t .number ∷ []) (numbers-of (kept-by p (drop (i + 1) ts))) ∙ (ap (λ l. take at now′ ++ l) (sym more) ∙ h .front));
+              ap (λ l. l ++ numbers-of (kept-by p (drop (i + 1) ts))) (take-more-set now′ at (t .number) lt)
+              ∙ (append-assoc (take at now′) (t .number ∷ []) (numbers-of (kept-by p (drop (i + 1) ts))) ∙ (ap (λ l. take at now′ ++ l) (sym more) ∙ h .front));
           rest = drop-set-lt (at + 1) now′ at (t .number) (omega arith) ∙ one;
           room = omega (arith, h .room, ap length (kept-yes e));
         }

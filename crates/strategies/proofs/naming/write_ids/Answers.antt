@@ -14,7 +14,7 @@ loop-i-holds g c = write-none (g .P·Picks .passes (c .args .test .now)) (c .arg
 room : (g : _) (c : need.Then-picks g) → c .loop-i .at < length (c .loop-i .ids)
 room g c =
     let w = write-room (g .P·Picks .passes (c .args .test .now)) (c .args .tables .now) (c .args .ids .now) (c .loop-i .ids) (c .loop-i .at) (c .loop-i .i)
-          (c .index-tables-i .result) (omega arith) (c .index-tables-i .is) (c .loop-i .inv) (sym (c .if-picks .ensures tt)) in
+    (c .index-tables-i .result) (omega arith) (c .index-tables-i .is) (c .loop-i .inv) (sym (c .if-picks .ensures tt)) in
     omega (arith, c .pre)
 
 pub index-ids-at : need.index-ids-at
