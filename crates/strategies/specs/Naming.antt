@@ -1,20 +1,17 @@
 -- What an answer says of the tables that pass a test, p, and what it writes into the id sheet.
 use mathlib.Core.Bool.{Bool, cond}
-use mathlib.Core.List.{List, _++_, map}
+use mathlib.Core.List.{List, map}
 use Prim.Native.Nat.{ℕ, _^_}
 use lib.Dec.{leb}
-use lib.ListN.{length, drop}
+use lib.ListN.{length}
 use Rattle.std.specs.declared.result.Result.{Result}
 use Rattle.std.specs.declared.result.Result.the-variants.{Ok, Err}
 use Rattle.std.specs.shelf.Lists.{kept-by, sumBy}
 use Rattle.refusals.specs.declared.refusal.Refusal.{Refusal}
 use Rattle.refusals.specs.declared.refusal.Refusal.the-variants.{NotSound, IdsTooShort}
 use Rattle.runs.specs.declared.table.Table.{Table}
+use Rattle.sheets.specs.Edits.{laid}
 use Rattle.strategies.specs.declared.naming.Named.{Named}
-
--- xs over the front of s: what lies past them is kept
-abbrev pub laid : {X : Type 0} → List X → List X → List X
-laid xs s = xs ++ drop (length xs) s
 
 module _ {K : Type 0} where
   abbrev pub numbers-of : List (Table K) → List ℕ

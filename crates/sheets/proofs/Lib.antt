@@ -1,0 +1,4 @@
+pub mod Alike
+pub mod Filtering
+pub mod Laid
+pub mod Members

@@ -1,0 +1,2 @@
+//! The sheet: table records in memory that the caller lends, of which the first `count` stand.
+pub mod edits;
