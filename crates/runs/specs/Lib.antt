@@ -1,3 +1,5 @@
+pub mod Cursor
 pub mod Pairing
 pub mod Run
 pub mod Search
+pub mod SliceWindows

@@ -3,4 +3,5 @@ pub mod fresh;
 pub mod ranged;
 pub mod run;
 pub mod search;
+pub mod slice_windows;
 pub mod table;

@@ -1,3 +1,4 @@
 pub mod Alike
+pub mod Granted
 pub mod Weighing
 pub mod Writing
