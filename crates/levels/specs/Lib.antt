@@ -1,0 +1,4 @@
+pub mod Rounding
+pub mod Scores
+pub mod Settings
+pub mod Targets
