@@ -1,5 +1,6 @@
 -- Lists after an edit: what was laid over the front, and what is kept behind it.
 use mathlib.Core.Path.{_≡_, refl, sym, ap, _∙_}
+use mathlib.Core.Bool.{Bool, true, false, cond}
 use mathlib.Core.List.{List, [], _∷_, _++_}
 use Prim.Native.Nat.{ℕ, zero, suc, _+_, _-_, _<_, _≤_}
 use native.Mathlib.Omega.{arith}
@@ -8,11 +9,16 @@ use lib.ListN.{length, getD, set, take, drop}
 use lib.Seq.{paste}
 use Rattle.std.specs.shelf.Lists.{inserted, removed}
 use Rattle.std.proofs.shelf.Edits.{length-inserted, length-removed}
-use Rattle.std.proofs.shelf.Lists.{same-lists, places, append-assoc, drop-set, drop-drop, drop-at, take-at, set-append-right, getD-append-right, getD-drop, getD-set-same, length-drop, length-push, length-take-le}
+use Rattle.std.proofs.shelf.Lists.{same-lists, places, append-assoc, drop-set, drop-drop, drop-at, take-at, set-append-right, getD-append-right, getD-drop, getD-set-same, length-drop, length-push, length-take-le, take-append-drop}
 use Rattle.std.proofs.shelf.Tests.{cases-eq}
+use Rattle.runs.proofs.Sorteds.{drop-read}
 use Rattle.sheets.specs.Edits.{laid, changed}
 
 module _ {X : Type 0} where
+  pub length-cond : (b : Bool) (xs ys : List X) (n : ℕ) → length xs ≡ n → length ys ≡ n → length (cond b xs ys) ≡ n
+  length-cond true xs ys n h j = h
+  length-cond false xs ys n h j = j
+
   -- ---- reading the front and the rest off what was laid
   pub take-laid : (f s : List X) (n : ℕ) → n ≡ length f → take n (laid f s) ≡ f
   take-laid f s n e = take-at f (drop (length f) s) n (sym e)
@@ -27,6 +33,26 @@ module _ {X : Type 0} where
   getD-laid f s i d le =
       let n : length f + (i - length f) ≡ i = omega arith in
       getD-append-right f (drop (length f) s) (length f) i d refl le ∙ getD-drop (length f) s (i - length f) d ∙ ap (λ j. getD s j d) n
+
+  -- the longer of two laid over one another is what is left
+  pub laid-laid : (f g s : List X) → length f ≤ length g → laid g (laid f s) ≡ laid g s
+  laid-laid f g s le = ap (λ l. g ++ l) (drop-laid f s (length g) le)
+
+  -- a second edit of what was laid, which leaves no less
+  pub relaid : (f : List X → List X) (xs s s′ s″ : List X) (n : ℕ) → s′ ≡ laid xs s → n ≡ length xs → length xs ≤ length (f xs) → s″ ≡ laid (f (take n s′)) s′ → s″ ≡ laid (f xs) s
+  relaid f xs s s′ s″ n is e le is′ =
+      let front : take n s′ ≡ xs = ap (take n) is ∙ take-laid xs s n e in
+      is′ ∙ ap (λ l. laid (f l) s′) front ∙ ap (laid (f xs)) is ∙ laid-laid xs (f xs) s le
+
+  -- a front laid over itself
+  pub laid-front : (s : List X) (n : ℕ) → n ≤ length s → laid (take n s) s ≡ s
+  laid-front s n le = ap (λ j. take n s ++ drop j s) (length-take-le n s le) ∙ take-append-drop n s
+
+  -- one more that stood there anyway
+  pub laid-same : (f s : List X) (x : X) → length f < length s → x ≡ getD s (length f) x → laid (f ++ x ∷ []) s ≡ laid f s
+  laid-same f s x lt e =
+      let one : length (f ++ x ∷ []) ≡ length f + 1 = length-push f x in
+      append-assoc f (x ∷ []) (drop (length (f ++ x ∷ [])) s) ∙ ap (λ j. f ++ x ∷ drop j s) one ∙ ap (λ l. f ++ l) (sym (drop-read s (length f) x lt e))
 
   -- one more laid over the front
   pub laid-push : (f s : List X) (k : ℕ) (x : X) → k ≡ length f → k < length s → set (laid f s) k x ≡ laid (f ++ x ∷ []) s

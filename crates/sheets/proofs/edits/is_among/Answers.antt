@@ -1,4 +1,4 @@
-use Rattle.sheets.proofs.Members.{memb-contains}
+use Rattle.sheets.proofs.Among.{memb-contains}
 use Rattle.sheets.proofs.edits.is_among.Needs as need
 
 pub returns : need.returns
