@@ -16,6 +16,7 @@ use Rattle.keys.specs.Bounds.{within}
 use Rattle.keys.specs.StopKey.{stop-ranks}
 use Rattle.runs.specs.declared.table.Table.{Table}
 use Rattle.sheets.specs.Edits.{laid}
+use Rattle.sheets.specs.Level.{numbers-of}
 use Rattle.sheets.specs.Tables.{without}
 use Rattle.strategies.specs.declared.naming.Named.{Named}
 use Rattle.strategies.specs.Naming as N
@@ -35,7 +36,7 @@ leaving tour ts = kept-by (of-tour tour) ts
 
 -- those that stay
 abbrev pub staying : ℕ → List (Table StopKey) → List (Table StopKey)
-staying tour ts = without (N.numbers-of (leaving tour ts)) ts
+staying tour ts = without (numbers-of (leaving tour ts)) ts
 
 module _ (tour count : ℕ) (sheet : List (Table StopKey)) where
   -- what naming answered, with how many stand after

@@ -9,7 +9,8 @@ use Rattle.keys.specs.Pairing.{Both}
 use Rattle.keys.proofs.Alike.{length-alike, sum-alike, kept-alike, map-same}
 use Rattle.runs.specs.declared.table.Table.{Table}
 use Rattle.runs.specs.Pairing.{Twin}
-use Rattle.strategies.specs.Naming.{numbers-of, size-of, weighed, named, written}
+use Rattle.sheets.specs.Level.{numbers-of, size-of}
+use Rattle.strategies.specs.Naming.{weighed, named, written}
 
 module _ {A B : Type 0} (R : A → B → Type 0) where
   pub numbers-alike : {ts : List (Table A)} {us : List (Table B)} → Both (Twin R) ts us → numbers-of ts ≡ numbers-of us

@@ -14,7 +14,8 @@ use Rattle.refusals.specs.declared.refusal.Refusal.{Refusal}
 use Rattle.runs.specs.declared.table.Table.{Table}
 use Rattle.sheets.specs.Edits.{laid}
 use Rattle.strategies.specs.declared.naming.Named.{Named}
-use Rattle.strategies.specs.Naming.{numbers-of, size-of, named, written}
+use Rattle.sheets.specs.Level.{numbers-of, size-of}
+use Rattle.strategies.specs.Naming.{named, written}
 
 -- a granted answer passed both tests
 granted-by : {X E : Type 0} (a b : Bool) (x y : X) (e f : E) → _≡_ {A = Result X E} (cond a (cond b (cond a (Ok x) (Err e)) (Err f)) (Err e)) (Ok y) → (a ≡ true) × (b ≡ true) × (x ≡ y)

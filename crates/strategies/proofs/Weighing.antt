@@ -17,7 +17,8 @@ use Rattle.refusals.specs.declared.refusal.Refusal.the-variants.{NotSound}
 use Rattle.runs.specs.declared.table.Table.{Table}
 use Rattle.runs.proofs.Sorteds.{drop-read}
 use Rattle.strategies.specs.declared.naming.Named.{Named}
-use Rattle.strategies.specs.Naming.{size-of, weighed}
+use Rattle.sheets.specs.Level.{size-of}
+use Rattle.strategies.specs.Naming.{weighed}
 
 module _ {K : Type 0} (p : Table K → Bool) (ts : List (Table K)) where
   -- before place i: `left` is what the limit leaves, `count` and `bytes` what has passed

@@ -10,7 +10,7 @@ use Rattle.std.proofs.shelf.Lists.{drop-all, take-more-set, drop-set-lt, append
 use Rattle.runs.specs.declared.table.Table.{Table}
 use Rattle.runs.proofs.Sorteds.{drop-read}
 use Rattle.sheets.specs.Edits.{laid}
-use Rattle.strategies.specs.Naming.{numbers-of}
+use Rattle.sheets.specs.Level.{numbers-of}
 
 module _ {K : Type 0} (p : Table K → Bool) (ts : List (Table K)) (ids : List ℕ) where
   -- before place i: the first `at` numbers are written over `ids`, which is `now′` by then
