@@ -1,0 +1,9 @@
+pub mod Alike
+pub mod Bests
+pub mod Counts
+pub mod Laws
+pub mod Merges
+pub mod Moves
+pub mod Places
+pub mod Shortest
+pub mod Turns
