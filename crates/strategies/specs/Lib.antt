@@ -1,1 +1,6 @@
+pub mod Answer
+pub mod DropRange
+pub mod Fifo
+pub mod Major
 pub mod Naming
+pub mod Strategy

@@ -1,0 +1,2 @@
+//! Leveled: when a level has too much, parts of it are merged into the next.
+pub mod strategy;
