@@ -1,0 +1,2 @@
+//! The job book.
+pub mod ticket;

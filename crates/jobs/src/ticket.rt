@@ -1,0 +1,6 @@
+//! Tickets.
+
+/// The right to end one job.
+pub struct Ticket {
+    number: u64,
+}
