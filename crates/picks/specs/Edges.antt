@@ -43,9 +43,11 @@ module _ {K T : Type 0} (cmp : K → K → Ordering) (spans : T → KeyRange K) 
     ended (suc l) = place Max Max UpTo curr next l
 
     module _ (bytes : T → ℕ) (curr-marks next-marks : List Bool) where
+      -- the left edge of s: what stands before it, and what begins before its table does
       abbrev pub left-of : ℕ → Edge
       left-of s = record { next = front bytes next next-marks s; curr = front bytes curr curr-marks (begun s) }
 
+      -- the right edge of e: what stands before it, and what ends with that or before
       abbrev pub right-of : ℕ → Edge
       right-of e = record { next = front bytes next next-marks e; curr = front bytes curr curr-marks (ended e) }
 
@@ -56,7 +58,7 @@ module _ {K T : Type 0} (cmp : K → K → Ordering) (spans : T → KeyRange K) 
         pub curr-is : edge .curr ≡ front bytes curr curr-marks (edge .curr .at)
         pub curr-up : edge .curr .at ≤ begun s
 
-      -- what the windows from s contain that end before the edge weighs nothing
+      -- no window from s that ends before e contains any weight, and e does not pass the end of the next level
       pub record Light (s e : ℕ) : Type 0 where
         pub within : e ≤ length next
         pub light : (k : ℕ) → s < k → k < e → right-of k .curr .sum ≤ left-of s .curr .sum

@@ -1,4 +1,5 @@
--- The windows of the next level that can be merged with what they contain. `bytes` is a table's size, `target` the target size of a table.
+-- The windows of the next level that can be merged with what they contain. `cmp` is the order of the keys, `spans`, `bytes` and `named` a table's range,
+-- size and number, `hs` the hidden numbers, `curr` the level and `next` the one below it, `target` the target size of a table.
 use mathlib.Core.Bool.{Bool, false, cond, _&&_}
 use mathlib.Core.List.{List, [], _∷_}
 use Prim.Native.Nat.{ℕ, _+_, _*_}

@@ -22,5 +22,6 @@ module _ {K T : Type 0} (cmp : K → K → Ordering) (spans : T → KeyRange K) 
   move-or-merge None = merge-or-nothing (cheapest-merge cmp spans bytes named hs curr next target)
   move-or-merge (Some w) = Move w
 
+  -- what is picked
   abbrev pub pick : Picked
   pick = move-or-merge (longest-movable cmp spans named hs curr next)

@@ -1,5 +1,4 @@
 //! The two edges of a window of the next level: the fronts of both levels there. What lies between the edges is the window with what it contains.
-//! What is public here serves the merge, which has marked both levels: hence the `requires`.
 ghost use mathlib.Core.Path.{_≡_};
 ghost use mathlib.Core.Bool.{true};
 ghost use Prim.Native.Nat.{_<_, _≤_, _^_};
@@ -45,7 +44,7 @@ pub fn left_edge<T: TableFile>(
     }
 }
 
-/// The edge on the right of the shortest window that starts at a place and whose contained tables weigh anything, or else of the longest one.
+/// The edge on the right of the shortest window from a left edge whose contained tables weigh anything, or else of the longest one.
 /// No shorter one has anything to merge; a longer one never gets cheaper, and what bars the shortest bars it.
 pub fn right_edge<T: TableFile>(
     curr: &[T],
@@ -53,21 +52,20 @@ pub fn right_edge<T: TableFile>(
     curr_marks: &Marks,
     next_marks: &Marks,
     from: Edge,
-    start: usize,
-    weight: u64,
+    left: Edge,
 ) -> Edge
     requires both_sorted { ⌜ sorted (Key·KeyKind .ranks) (T·Ranged .spans) (now curr) ≡ true ⌝ ∗ ⌜ sorted (Key·KeyKind .ranks) (T·Ranged .spans) (now next) ≡ true ⌝ }
     requires small { ⌜ sumBy (T·TableFile .bytes) (now curr) ≤ 2 ^ 53 ⌝ ∗ ⌜ sumBy (T·TableFile .bytes) (now next) ≤ 2 ^ 53 ⌝ }
     requires few { ⌜ length (now curr) ≤ 1024 ⌝ ∗ ⌜ length (now next) ≤ 1024 ⌝ }
-    requires within { ⌜ start < length (now next) ⌝ }
-    requires starts { ⌜ from ≡ right-of (Key·KeyKind .ranks) (T·Ranged .spans) (now curr) (now next) (T·TableFile .bytes) (now «curr_marks» .at) (now «next_marks» .at) (from .next .at) ⌝ ∗ ⌜ Light (Key·KeyKind .ranks) (T·Ranged .spans) (now curr) (now next) (T·TableFile .bytes) (now «curr_marks» .at) (now «next_marks» .at) start (from .next .at) ⌝ }
-    requires weight { ⌜ weight ≡ left-of (Key·KeyKind .ranks) (T·Ranged .spans) (now curr) (now next) (T·TableFile .bytes) (now «curr_marks» .at) (now «next_marks» .at) start .curr .sum ⌝ }
+    requires within { ⌜ left .next .at < length (now next) ⌝ }
+    requires left { ⌜ left ≡ left-of (Key·KeyKind .ranks) (T·Ranged .spans) (now curr) (now next) (T·TableFile .bytes) (now «curr_marks» .at) (now «next_marks» .at) (left .next .at) ⌝ }
+    requires starts { ⌜ from ≡ right-of (Key·KeyKind .ranks) (T·Ranged .spans) (now curr) (now next) (T·TableFile .bytes) (now «curr_marks» .at) (now «next_marks» .at) (from .next .at) ⌝ ∗ ⌜ Light (Key·KeyKind .ranks) (T·Ranged .spans) (now curr) (now next) (T·TableFile .bytes) (now «curr_marks» .at) (now «next_marks» .at) (left .next .at) (from .next .at) ⌝ }
     ensures edge { λ r. ⌜ r ≡ right-of (Key·KeyKind .ranks) (T·Ranged .spans) (now (curr .entry)) (now (next .entry)) (T·TableFile .bytes) (now («curr_marks» .entry) .at) (now («next_marks» .entry) .at) (r .next .at) ⌝ }
-    ensures shortest { λ r. ⌜ Shortest (Key·KeyKind .ranks) (T·Ranged .spans) (now (curr .entry)) (now (next .entry)) (T·TableFile .bytes) (now («curr_marks» .entry) .at) (now («next_marks» .entry) .at) start (r .next .at) ⌝ }
+    ensures shortest { λ r. ⌜ Shortest (Key·KeyKind .ranks) (T·Ranged .spans) (now (curr .entry)) (now (next .entry)) (T·TableFile .bytes) (now («curr_marks» .entry) .at) (now («next_marks» .entry) .at) (left .next .at) (r .next .at) ⌝ }
 {
     let mut end = from.next;
     let mut high = from.curr;
-    while end.at <= start || (high.sum <= weight && end.at < next.len()) {
+    while end.at <= left.next.at || (high.sum <= left.curr.sum && end.at < next.len()) {
         let last = next[end.at].key_range();
         let reach = partition_point(curr, End::Max, Reach::UpTo, &last.max);
         high = high.advanced(curr, curr_marks, reach);

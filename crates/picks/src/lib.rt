@@ -1,7 +1,7 @@
 //! The leveled strategy's pick: a move of the longest window, else the merge with the fewest bytes.
-pub mod edges;
-pub mod fronts;
-pub mod marks;
+mod edges;
+mod fronts;
+mod marks;
 pub mod merge;
-pub mod movable;
+mod movable;
 pub mod pick;

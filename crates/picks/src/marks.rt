@@ -7,13 +7,13 @@ use runs::ranged::TableFile;
 use sheets::hidden_set::HiddenSet;
 
 /// A mark for each table of a run of at most 1,024: whether it is hidden.
-#[derive(Clone, Copy)]
+#[derive(Drop)]
 pub struct Marks {
     pub at: [bool; 1024],
 }
 
 impl Marks {
-    /// Looks each table of the run up in the hidden set. It serves the crates above, which have tested how long a run is: hence the `requires`.
+    /// Looks each table of the run up in the hidden set.
     pub fn new<T: TableFile>(run: &[T], hidden_set: &HiddenSet) -> Marks
         requires { ⌜ length (now run) ≤ 1024 ⌝ }
         ensures { λ r. ⌜ Marked (T·TableFile .named) (hidden (now («hidden_set» .entry))) (now (run .entry)) (r .at) ⌝ }

@@ -26,6 +26,45 @@ pub struct Merging {
     pub bytes: u64,
 }
 
+// The admissible window of the next level with the fewest bytes, the first in the order of reading among equals, for the hidden numbers that the marks were made from.
+pub(crate) fn cheapest_merge<T: TableFile>(
+    curr: &[T],
+    next: &[T],
+    curr_marks: &Marks,
+    next_marks: &Marks,
+    target_size: u64,
+) -> Option<Merging>
+    requires curr_sorted { ⌜ sorted (Key·KeyKind .ranks) (T·Ranged .spans) (now curr) ≡ true ⌝ }
+    requires next_sorted { ⌜ sorted (Key·KeyKind .ranks) (T·Ranged .spans) (now next) ≡ true ⌝ }
+    requires curr_small { ⌜ sumBy (T·TableFile .bytes) (now curr) ≤ 2 ^ 53 ⌝ }
+    requires next_small { ⌜ sumBy (T·TableFile .bytes) (now next) ≤ 2 ^ 53 ⌝ }
+    requires target_small { ⌜ «target_size» ≤ 2 ^ 40 ⌝ }
+    requires curr_few { ⌜ length (now curr) ≤ 1024 ⌝ }
+    requires next_few { ⌜ length (now next) ≤ 1024 ⌝ }
+    ensures { λ r. ⌜ ((hs : List ℕ) → Marked (T·TableFile .named) hs (now (curr .entry)) (now («curr_marks» .entry) .at) → Marked (T·TableFile .named) hs (now (next .entry)) (now («next_marks» .entry) .at) → r ≡ mapped (merging (Key·KeyKind .ranks) (T·Ranged .spans) (now (curr .entry)) (now (next .entry)) (T·TableFile .bytes)) (cheapest-merge (Key·KeyKind .ranks) (T·Ranged .spans) (T·TableFile .bytes) (T·TableFile .named) hs (now (curr .entry)) (now (next .entry)) «target_size»)) ⌝ }
+{
+    let cap = 50 * target_size;
+    let none = Front {
+        at: 0,
+        sum: 0,
+        hidden: 0,
+    };
+    let mut left = Edge {
+        next: none,
+        curr: none,
+    };
+    let mut right = left;
+    let mut best = None;
+    for i in 0..next.len() {
+        left = left_edge(curr, next, curr_marks, next_marks, left, i);
+        right = right_edge(curr, next, curr_marks, next_marks, right, left);
+        if is_allowed(cap, left, right) {
+            best = sooner(best, merge_between(left, right));
+        }
+    }
+    best
+}
+
 // Whether the window between two edges may be merged with what it contains.
 fn is_allowed(cap: u64, left: Edge, right: Edge) -> bool
     requires { ⌜ left .next .sum ≤ right .next .sum ⌝ }
@@ -69,44 +108,4 @@ fn sooner(best: Option<Merging>, found: Merging) -> Option<Merging>
             }
         }
     }
-}
-
-/// The admissible window of the next level with the fewest bytes, the first in the order of reading among equals.
-/// It serves the pick, which has marked both levels: the answer holds for the hidden numbers that the marks were made from.
-pub fn cheapest_merge<T: TableFile>(
-    curr: &[T],
-    next: &[T],
-    curr_marks: &Marks,
-    next_marks: &Marks,
-    target_size: u64,
-) -> Option<Merging>
-    requires curr_sorted { ⌜ sorted (Key·KeyKind .ranks) (T·Ranged .spans) (now curr) ≡ true ⌝ }
-    requires next_sorted { ⌜ sorted (Key·KeyKind .ranks) (T·Ranged .spans) (now next) ≡ true ⌝ }
-    requires curr_small { ⌜ sumBy (T·TableFile .bytes) (now curr) ≤ 2 ^ 53 ⌝ }
-    requires next_small { ⌜ sumBy (T·TableFile .bytes) (now next) ≤ 2 ^ 53 ⌝ }
-    requires target_small { ⌜ «target_size» ≤ 2 ^ 40 ⌝ }
-    requires curr_few { ⌜ length (now curr) ≤ 1024 ⌝ }
-    requires next_few { ⌜ length (now next) ≤ 1024 ⌝ }
-    ensures { λ r. ⌜ ((hs : List ℕ) → Marked (T·TableFile .named) hs (now (curr .entry)) (now («curr_marks» .entry) .at) → Marked (T·TableFile .named) hs (now (next .entry)) (now («next_marks» .entry) .at) → r ≡ mapped (merging (Key·KeyKind .ranks) (T·Ranged .spans) (now (curr .entry)) (now (next .entry)) (T·TableFile .bytes)) (cheapest-merge (Key·KeyKind .ranks) (T·Ranged .spans) (T·TableFile .bytes) (T·TableFile .named) hs (now (curr .entry)) (now (next .entry)) «target_size»)) ⌝ }
-{
-    let cap = 50 * target_size;
-    let none = Front {
-        at: 0,
-        sum: 0,
-        hidden: 0,
-    };
-    let mut left = Edge {
-        next: none,
-        curr: none,
-    };
-    let mut right = left;
-    let mut best = None;
-    for i in 0..next.len() {
-        left = left_edge(curr, next, curr_marks, next_marks, left, i);
-        right = right_edge(curr, next, curr_marks, next_marks, right, i, left.curr.sum);
-        if is_allowed(cap, left, right) {
-            best = sooner(best, merge_between(left, right));
-        }
-    }
-    best
 }

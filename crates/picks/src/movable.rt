@@ -15,7 +15,7 @@ use runs::search::partition_point;
 use runs::slice_windows::Window;
 
 /// The longest window without a hidden table whose span meets nothing of the next level, the leftmost among equals.
-/// It serves the pick, which has marked the level: the answer holds for the hidden numbers that the marks were made from.
+/// The answer holds for the hidden numbers that the marks were made from.
 pub fn longest_movable<T: TableFile>(curr: &[T], next: &[T], marks: &Marks) -> Option<Window>
     requires curr_sorted { ⌜ sorted (Key·KeyKind .ranks) (T·Ranged .spans) (now curr) ≡ true ⌝ }
     requires next_sorted { ⌜ sorted (Key·KeyKind .ranks) (T·Ranged .spans) (now next) ≡ true ⌝ }

@@ -9,7 +9,7 @@ abbrev pub Inv-loop-end : given.InvT-loop-end
 Inv-loop-end g l =
     (l .end ≡ front (g .T·TableFile .bytes) (l .next) (l .next-marks .at) (l .end .at))
     × (l .high ≡ front (g .T·TableFile .bytes) (l .curr) (l .curr-marks .at) (ended (g .Key·KeyKind .ranks) (g .T·Ranged .spans) (l .curr) (l .next) (l .end .at)))
-    × Light (g .Key·KeyKind .ranks) (g .T·Ranged .spans) (l .curr) (l .next) (g .T·TableFile .bytes) (l .curr-marks .at) (l .next-marks .at) (l .start) (l .end .at)
+    × Light (g .Key·KeyKind .ranks) (g .T·Ranged .spans) (l .curr) (l .next) (g .T·TableFile .bytes) (l .curr-marks .at) (l .next-marks .at) (l .left .next .at) (l .end .at)
 
 abbrev pub μ-loop-end : given.MeasureT-loop-end
 μ-loop-end g l = length (l .next) - l .end .at

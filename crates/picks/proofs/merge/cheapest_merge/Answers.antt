@@ -1,8 +1,8 @@
-use mathlib.Core.Path.{_≡_, refl, sym, ap, _∙_}
-use Prim.Native.Nat.{_*_}
+use mathlib.Core.Path.{_≡_, refl, sym, ap, subst, _∙_}
+use Prim.Native.Nat.{ℕ, _*_}
 use native.Mathlib.Omega.{arith}
 use Rattle.picks.specs.declared.edges.Edge.{Edge}
-use Rattle.picks.specs.Edges.{left-of, right-of, allowed, merged, sooner}
+use Rattle.picks.specs.Edges.{left-of, right-of, Shortest, allowed, merged, sooner}
 use Rattle.picks.specs.Fronts.{front}
 use Rattle.picks.proofs.Counts.{sum-mono}
 use Rattle.picks.proofs.Merges.{found-none, found-all, turn-bars, turn-finds}
@@ -29,19 +29,21 @@ loop-i-holds g c =
 
 pub is-allowed-requires : need.is-allowed-requires
 is-allowed-requires g c κs =
+    let start = ap (λ (x : Edge). x .next .at) (c .left-edge-left .ensures) in
     omega (
       arith,
       ap (λ (x : Edge). x .next .sum) (c .left-edge-left .ensures),
       ap (λ (x : Edge). x .next .sum) (c .right-edge-right .ensures .edge),
-      sum-mono (g .T·TableFile .bytes) (c .args .next .now) (c .loop-i .i) (c .right-edge-right .result .next .at) (omega (arith, c .right-edge-right .ensures .shortest .past)),
+      sum-mono (g .T·TableFile .bytes) (c .args .next .now) (c .loop-i .i) (c .right-edge-right .result .next .at) (omega (arith, start, c .right-edge-right .ensures .shortest .past)),
     )
 
 pub merge-between-requires : need.merge-between-requires
 merge-between-requires g c κs =
+    let start = ap (λ (x : Edge). x .next .at) (c .left-edge-left .ensures) in
     let a = allowed-gives (50 * c .args .target-size) (c .left-edge-left .result) (c .right-edge-right .result) (sym (c .is-allowed .ensures) ∙ c .if-is-allowed .taken) in
     edges-open (g .Key·KeyKind·met .total) (g .T·Ranged .spans) (c .args .curr .now) (c .args .next .now) (c .pre .next-sorted) (g .T·TableFile .bytes) (c .args .curr-marks .now .at) (c .args .next-marks .now .at)
-    (c .loop-i .i) (c .right-edge-right .result .next .at) (c .left-edge-left .result) (c .right-edge-right .result) (c .left-edge-left .ensures) (c .right-edge-right .ensures .edge) (c .right-edge-right .ensures .shortest .past)
-    (a .weighs) (c .pre .curr-small) (c .pre .next-small)
+    (c .loop-i .i) (c .right-edge-right .result .next .at) (c .left-edge-left .result) (c .right-edge-right .result) (c .left-edge-left .ensures) (c .right-edge-right .ensures .edge)
+    (omega (arith, start, c .right-edge-right .ensures .shortest .past)) (a .weighs) (c .pre .curr-small) (c .pre .next-small)
 
 pub loop-i-again : need.loop-i-again
 loop-i-again g c =
@@ -60,8 +62,8 @@ loop-i-again g c =
     let left = c .left-edge-left .result in
     let right = c .right-edge-right .result in
     let e = right .next .at in
-    let short = c .right-edge-right .ensures .shortest in
     let left-is : left ≡ left-of cmp spans curr next bytes cm nm i = c .left-edge-left .ensures in
+    let short = subst (λ (n : ℕ). Shortest cmp spans curr next bytes cm nm n e) (ap (λ (x : Edge). x .next .at) left-is) (c .right-edge-right .ensures .shortest) in
     let right-is : right ≡ right-of cmp spans curr next bytes cm nm e = c .right-edge-right .ensures .edge in
     let test : c .is-allowed .result ≡ allowed cap (left-of cmp spans curr next bytes cm nm i) (right-of cmp spans curr next bytes cm nm e) =
     c .is-allowed .ensures ∙ ap (λ x. allowed cap x right) left-is ∙ ap (allowed cap (left-of cmp spans curr next bytes cm nm i)) right-is in (
