@@ -1,0 +1,11 @@
+pub mod Alike
+pub mod Laws
+pub mod Layouts
+pub mod LevelRuns
+pub mod NamingAlike
+pub mod NamingLaws
+pub mod NamingParts
+pub mod NamingSpans
+pub mod Picks
+pub mod Stretches
+pub mod WindowSides

@@ -1,1 +1,3 @@
+pub mod Layouts
 pub mod Leveled
+pub mod Promise

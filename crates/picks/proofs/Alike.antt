@@ -48,11 +48,11 @@ module _ {X : Type 0} where
 -- ---- windows and picks
 module _ {A B T U : Type 0} (cmpA : A → A → Ordering) (cmpB : B → B → Ordering) (R : A → B → Type 0) (alike : Compare-alike cmpA cmpB R) (spansA : T → KeyRange A) (spansB : U → KeyRange B)
     (S : T → U → Type 0) (ranges : (t : T) (u : U) → S t u → Twin-range R (spansA t) (spansB u)) where
-  meets-span-alike : {o : Option (KeyRange A)} {p : Option (KeyRange B)} → Twin-spans R o p → (t : T) (u : U) → S t u → meets-span cmpA spansA o t ≡ meets-span cmpB spansB p u
+  pub meets-span-alike : {o : Option (KeyRange A)} {p : Option (KeyRange B)} → Twin-spans R o p → (t : T) (u : U) → S t u → meets-span cmpA spansA o t ≡ meets-span cmpB spansB p u
   meets-span-alike no-span t u s = refl
   meets-span-alike (a-span x) t u s = meets-alike cmpA cmpB R alike (ranges t u s) x
 
-  inside-span-alike : {o : Option (KeyRange A)} {p : Option (KeyRange B)} → Twin-spans R o p → (t : T) (u : U) → S t u → inside-span cmpA spansA o t ≡ inside-span cmpB spansB p u
+  pub inside-span-alike : {o : Option (KeyRange A)} {p : Option (KeyRange B)} → Twin-spans R o p → (t : T) (u : U) → S t u → inside-span cmpA spansA o t ≡ inside-span cmpB spansB p u
   inside-span-alike no-span t u s = refl
   inside-span-alike (a-span x) t u s = inside-alike cmpA cmpB R alike x (ranges t u s)
 
@@ -60,10 +60,10 @@ module _ {A B T U : Type 0} (cmpA : A → A → Ordering) (cmpB : B → B → Or
   before-span-alike no-span t u s = refl
   before-span-alike (a-span x) t u s = lt-alike cmpA cmpB R alike (ranges t u s .min) (x .min)
 
-  tables-alike : (w : Window) {ts : List T} {us : List U} → Both S ts us → Both S (tables-of w ts) (tables-of w us)
+  pub tables-alike : (w : Window) {ts : List T} {us : List U} → Both S ts us → Both S (tables-of w ts) (tables-of w us)
   tables-alike w b = take-alike S (w .len) (drop-alike S (w .start) b)
 
-  window-span : (w : Window) {ts : List T} {us : List U} → Both S ts us → Twin-spans R (span-of cmpA spansA (tables-of w ts)) (span-of cmpB spansB (tables-of w us))
+  pub window-span : (w : Window) {ts : List T} {us : List U} → Both S ts us → Twin-spans R (span-of cmpA spansA (tables-of w ts)) (span-of cmpB spansB (tables-of w us))
   window-span w b = span-alike cmpA cmpB R alike spansA spansB S ranges (tables-alike w b)
 
   module _ {curr next : List T} {curr′ next′ : List U} (c : Both S curr curr′) (n : Both S next next′) where
