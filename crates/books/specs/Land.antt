@@ -16,7 +16,7 @@ use Rattle.runs.specs.declared.table.Table.{Table}
 use Rattle.sheets.specs.Level.{numbers-of, size-of, in-level, runs}
 use Rattle.sheets.specs.Members.{some}
 use Rattle.sheets.specs.Tables.{memb, settled, insert}
-use Rattle.jobs.specs.State.{State, with-tables}
+use Rattle.books.specs.State.{State, with-tables}
 
 -- the sheet has places for the tables, and their sizes together are at most 2^53
 abbrev pub has-room : {K : Type 0} → ℕ → List (Table K) → Bool

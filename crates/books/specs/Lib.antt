@@ -2,6 +2,9 @@ pub mod Booked
 pub mod Book
 pub mod Calls
 pub mod Close
+pub mod Deed
 pub mod Job
 pub mod Land
+pub mod Pairing
+pub mod Promise
 pub mod State

@@ -9,11 +9,11 @@ use Rattle.refusals.specs.declared.refusal.Refusal.{Refusal}
 use Rattle.refusals.specs.declared.refusal.Refusal.the-variants.{NotSound}
 use Rattle.runs.specs.declared.fresh.Fresh.{Fresh}
 use Rattle.strategies.specs.declared.choice.Choice.{Choice}
-use Rattle.jobs.specs.Booked.{state-ok}
-use Rattle.jobs.specs.Book as B
-use Rattle.jobs.specs.Close as C
-use Rattle.jobs.specs.Land as L
-use Rattle.jobs.specs.State.{State}
+use Rattle.books.specs.Booked.{state-ok}
+use Rattle.books.specs.Book as B
+use Rattle.books.specs.Close as C
+use Rattle.books.specs.Land as L
+use Rattle.books.specs.State.{State}
 
 module _ {K : Type 0} (cmp : K → K → Ordering) where
   -- a call that asks no strategy

@@ -24,10 +24,10 @@ use Rattle.sheets.specs.Members.{some}
 use Rattle.sheets.specs.Tables.{memb, named, without, placed, settled, inserts}
 use Rattle.strategies.specs.declared.choice.Kind.{Kind}
 use Rattle.strategies.specs.declared.choice.Kind.the-variants.{Move, Merge, Drop}
-use Rattle.jobs.specs.Booked.{span-held}
-use Rattle.jobs.specs.Job.{Running, job-number, found, ended, held}
-use Rattle.jobs.specs.Land.{has-room, fresh-ok}
-use Rattle.jobs.specs.State.{State, with-tables, with-jobs}
+use Rattle.books.specs.Booked.{span-held}
+use Rattle.books.specs.Job.{Running, job-number, found, ended, held}
+use Rattle.books.specs.Land.{has-room, fresh-ok}
+use Rattle.books.specs.State.{State, with-tables, with-jobs}
 
 -- the place of the first of a list that is at fault, given those before it, the newest first
 abbrev pub first-fault : {X : Type 0} → (List X → X → Bool) → List X → List X → Option ℕ

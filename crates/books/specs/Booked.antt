@@ -19,8 +19,8 @@ use Rattle.sheets.specs.Tables.{memb, named}
 use Rattle.strategies.specs.declared.choice.Kind.{Kind}
 use Rattle.strategies.specs.declared.choice.Kind.the-variants.{Move, Merge, Drop}
 use Rattle.strategies.specs.Strategy.{Goes, Stands, spans-meet}
-use Rattle.jobs.specs.Job.{Running, running, held}
-use Rattle.jobs.specs.State.{State}
+use Rattle.books.specs.Job.{Running, running, held}
+use Rattle.books.specs.State.{State}
 
 -- no table is in two running jobs
 abbrev pub Disjoint : Running → Running → Type 0
@@ -30,6 +30,12 @@ Disjoint j k = (n : ℕ) → memb n (j .numbers) ≡ true → memb n (k .numbers
 abbrev pub pairs-by : {X : Type 0} → (X → X → Bool) → List X → Bool
 pairs-by r [] = true
 pairs-by r (x ∷ xs) = all-by (r x) xs && pairs-by r xs
+
+-- a move or a merge
+abbrev pub is-going : Kind → Bool
+is-going Move = true
+is-going Merge = true
+is-going Drop = false
 
 module _ {K : Type 0} (cmp : K → K → Ordering) where
   -- the span of a job's tables
@@ -86,12 +92,6 @@ module _ {K : Type 0} (cmp : K → K → Ordering) where
   -- it has a table, its tables are hidden, and it keeps what its kind asks
   abbrev pub job-ok : List (Table K) → List ℕ → Running → Bool
   job-ok ts hidden j = leb 1 (length (j .numbers)) && (all-by (λ n. memb n hidden) (j .numbers) && kind-ok ts j (j .kind))
-
-  -- a move or a merge
-  abbrev pub is-going : Kind → Bool
-  is-going Move = true
-  is-going Merge = true
-  is-going Drop = false
 
   -- the spans of two moves or merges to one level meet
   abbrev pub crosses : List (Table K) → Running → Running → Bool

@@ -3,7 +3,7 @@ use mathlib.Core.List.{List}
 use Prim.Native.Nat.{ℕ}
 use Rattle.std.specs.declared.option.Option.{Option}
 use Rattle.runs.specs.declared.table.Table.{Table}
-use Rattle.jobs.specs.Job.{Running}
+use Rattle.books.specs.Job.{Running}
 
 -- the sheet's places, how many tables stand, the blob total, the standing tables, the hidden numbers, and the eight slots for jobs
 pub record State (K : Type 0) : Type 0 where

@@ -17,9 +17,9 @@ use Rattle.sheets.specs.Tables.{named}
 use Rattle.strategies.specs.declared.choice.Choice.{Choice}
 use Rattle.strategies.specs.Answer.{Chosen, Answer, nothing, chooses, declines, refusal-of, as-choice, asked, noted}
 use Rattle.strategies.specs.Fifo.{place-of}
-use Rattle.jobs.specs.Booked.{crosses}
-use Rattle.jobs.specs.Job.{Running, job-number, running, started}
-use Rattle.jobs.specs.State.{State, with-jobs}
+use Rattle.books.specs.Booked.{crosses}
+use Rattle.books.specs.Job.{Running, job-number, running, started}
+use Rattle.books.specs.State.{State, with-jobs}
 
 -- a question, as the book puts it: of the standing tables and the hidden numbers, with the blob total and the clock filled in
 abbrev pub Question : Type 0 → Type 0

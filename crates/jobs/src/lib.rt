@@ -1,2 +1,0 @@
-//! The job book.
-pub mod ticket;

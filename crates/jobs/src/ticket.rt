@@ -1,6 +1,0 @@
-//! Tickets.
-
-/// The right to end one job.
-pub struct Ticket {
-    number: u64,
-}
