@@ -2,13 +2,13 @@
 ghost use mathlib.Core.Path.{_≡_};
 ghost use lib.ListN.{length, take};
 ghost use Rattle.drop_tour.specs.Tour.{bounds-of, dropped, left, written};
+use edits::records::remove_all;
 use keys::bounds::Bound;
 use keys::bounds::OwnedBounds;
 use keys::stop_key::StopKey;
 use keys::stop_key::StopKeyKind;
 use refusals::refusal::Refusal;
 use runs::table::Table;
-use sheets::edits::remove_all;
 use strategies::drop_range::InsideBounds;
 use strategies::naming::Named;
 use strategies::naming::name_tables;

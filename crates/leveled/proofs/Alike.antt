@@ -9,10 +9,10 @@ use Rattle.std.specs.declared.option.Option.{Option}
 use Rattle.std.specs.declared.option.Option.the-variants.{Some, None}
 use Rattle.keys.specs.Pairing.{Both, Compare-alike}
 use Rattle.runs.specs.declared.table.Table.{Table}
-use Rattle.runs.specs.declared.slice_windows.Window.{Window}
+use Rattle.windows.specs.declared.slice_windows.Window.{Window}
 use Rattle.runs.specs.Pairing.{Twin, Twin-spans}
 use Rattle.runs.specs.Run.{span-of}
-use Rattle.runs.specs.SliceWindows.{tables-of}
+use Rattle.windows.specs.SliceWindows.{tables-of}
 use Rattle.runs.proofs.Alike.{span-alike}
 use Rattle.levels.specs.declared.settings.Settings.{Settings}
 use Rattle.levels.specs.Settings.{in-limits}

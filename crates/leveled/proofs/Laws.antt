@@ -17,9 +17,9 @@ use Rattle.keys.specs.KeyKind.{Laws}
 use Rattle.keys.specs.KeyRange.{meets}
 use Rattle.keys.proofs.Orders.{lt-chain, lt-le}
 use Rattle.runs.specs.declared.table.Table.{Table}
-use Rattle.runs.specs.declared.slice_windows.Window.{Window}
+use Rattle.windows.specs.declared.slice_windows.Window.{Window}
 use Rattle.runs.specs.Run.{span-of}
-use Rattle.runs.specs.SliceWindows.{tables-of}
+use Rattle.windows.specs.SliceWindows.{tables-of}
 use Rattle.levels.specs.declared.settings.Settings.{Settings}
 use Rattle.levels.specs.Settings.{in-limits}
 use Rattle.levels.specs.Scores as S

@@ -3,7 +3,7 @@ use mathlib.Core.Path.{refl}
 use lib.Ieee.{span, climb, size, odd, units, round, mul, div, lt, le, ofInt, toUnsigned}
 use Rattle.levels.specs.Scores.{winner}
 use Rattle.levels.specs.Targets.{grown}
-use Rattle.runs.specs.SliceWindows.{from-left, growing-from, shrinking-from}
+use Rattle.windows.specs.SliceWindows.{from-left, growing-from, shrinking-from}
 use Rattle.picks.specs.Merge.{cheaper, cheapest-of, cost, merging, admissible}
 use Rattle.picks.specs.Movable.{first-of, movable}
 use Rattle.leveled.specs.Leveled.{score-of}

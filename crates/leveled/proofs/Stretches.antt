@@ -11,9 +11,9 @@ use Rattle.std.proofs.shelf.Tests.{and-parts, eqb-true}
 use Rattle.std.proofs.shelf.Sums.{sumBy-append}
 use Rattle.keys.specs.KeyKind.{Laws}
 use Rattle.runs.specs.declared.table.Table.{Table}
-use Rattle.runs.specs.declared.slice_windows.Window.{Window}
+use Rattle.windows.specs.declared.slice_windows.Window.{Window}
 use Rattle.runs.specs.Run.{span-of}
-use Rattle.runs.specs.SliceWindows.{tables-of}
+use Rattle.windows.specs.SliceWindows.{tables-of}
 use Rattle.sheets.specs.Level.{size-of, in-level, level-of, Stacked}
 use Rattle.sheets.specs.Members.{In, Pairs}
 use Rattle.sheets.specs.Sound.{Differ, Sound, tables-ok}

@@ -8,8 +8,8 @@ use native.Mathlib.Omega.{arith}
 use lib.ListN.{take, drop}
 use Rattle.std.specs.shelf.Lists.{countBy}
 use Rattle.std.proofs.shelf.Sums.{sumBy-cons}
-use Rattle.runs.specs.declared.slice_windows.Window.{Window}
-use Rattle.runs.specs.SliceWindows.{tables-of}
+use Rattle.windows.specs.declared.slice_windows.Window.{Window}
+use Rattle.windows.specs.SliceWindows.{tables-of}
 use Rattle.sheets.specs.Members.{In, here, later, Pairs, none, more}
 use Rattle.sheets.proofs.Each.{none-in, in-cases}
 use Rattle.leveled.proofs.NamingParts.{part-take, part-drop, part-in}

@@ -8,9 +8,9 @@ use Rattle.std.specs.declared.cmp.Ordering.{Ordering}
 use Rattle.std.specs.declared.option.Option.{Option}
 use Rattle.std.specs.declared.option.Option.the-variants.{Some, None}
 use Rattle.runs.specs.declared.table.Table.{Table}
-use Rattle.runs.specs.declared.slice_windows.Window.{Window}
+use Rattle.windows.specs.declared.slice_windows.Window.{Window}
 use Rattle.runs.specs.Run.{span-of}
-use Rattle.runs.specs.SliceWindows.{tables-of}
+use Rattle.windows.specs.SliceWindows.{tables-of}
 use Rattle.levels.specs.declared.settings.Settings.{Settings}
 use Rattle.levels.specs.Settings.{in-limits}
 use Rattle.levels.specs.Scores as S

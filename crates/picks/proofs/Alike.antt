@@ -12,10 +12,10 @@ use Rattle.std.specs.shelf.Lists.{sumBy}
 use Rattle.keys.specs.declared.key_range.KeyRange.{KeyRange}
 use Rattle.keys.specs.Pairing.{Both, Compare-alike, Twin-range}
 use Rattle.keys.proofs.Alike.{length-alike, take-alike, drop-alike, sum-alike, count-alike, kept-alike, lt-alike, meets-alike, inside-alike}
-use Rattle.runs.specs.declared.slice_windows.Window.{Window}
+use Rattle.windows.specs.declared.slice_windows.Window.{Window}
 use Rattle.runs.specs.Pairing.{Twin-spans, no-span, a-span}
 use Rattle.runs.specs.Run.{span-of}
-use Rattle.runs.specs.SliceWindows.{tables-of, growing, shrinking}
+use Rattle.windows.specs.SliceWindows.{tables-of, growing, shrinking}
 use Rattle.runs.proofs.Alike.{span-alike}
 use Rattle.sheets.specs.Tables.{memb}
 use Rattle.picks.specs.declared.pick.Picked.the-variants.{Merge}

@@ -11,9 +11,9 @@ use Rattle.std.specs.declared.option.Option.the-variants.{None, Some}
 use Rattle.std.specs.shelf.Lists.{All, Has}
 use Rattle.std.proofs.shelf.Elements.{all-has}
 use Rattle.std.proofs.shelf.Tests.{cases-bool, both-ways, ltb-true, ltb-false, cases-order}
-use Rattle.runs.specs.declared.slice_windows.Window.{Window}
-use Rattle.runs.specs.SliceWindows.{win, growing, shrinking, Within, Shorter, Longer, Ascends, Each-once}
-use Rattle.runs.proofs.WindowLists.{growing-once, shrinking-once}
+use Rattle.windows.specs.declared.slice_windows.Window.{Window}
+use Rattle.windows.specs.SliceWindows.{win, growing, shrinking, Within, Shorter, Longer, Ascends, Each-once}
+use Rattle.windows.proofs.WindowLists.{growing-once, shrinking-once}
 use Rattle.picks.specs.Merge.{cheaper, cheapest-of}
 use Rattle.picks.specs.Movable.{first-of}
 

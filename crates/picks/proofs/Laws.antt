@@ -12,8 +12,8 @@ use Rattle.std.specs.declared.option.Option.the-variants.{None, Some}
 use Rattle.std.specs.Options.{mapped}
 use Rattle.std.proofs.shelf.Tests.{cases-lt}
 use Rattle.keys.specs.declared.key_range.KeyRange.{KeyRange}
-use Rattle.runs.specs.declared.slice_windows.Window.{Window}
-use Rattle.runs.specs.SliceWindows.{Within, Shorter, Longer}
+use Rattle.windows.specs.declared.slice_windows.Window.{Window}
+use Rattle.windows.specs.SliceWindows.{Within, Shorter, Longer}
 use Rattle.picks.specs.declared.merge.Merging.{Merging}
 use Rattle.picks.specs.declared.pick.Picked.{Picked}
 use Rattle.picks.specs.declared.pick.Picked.the-variants.{Move, Merge, Nothing}

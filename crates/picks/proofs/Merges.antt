@@ -18,9 +18,9 @@ use Rattle.keys.specs.declared.key_range.KeyRange.{KeyRange}
 use Rattle.keys.specs.KeyKind.{Laws}
 use Rattle.runs.specs.declared.search.End.the-variants.{Min}
 use Rattle.runs.specs.declared.search.Reach.the-variants.{Before}
-use Rattle.runs.specs.declared.slice_windows.Window.{Window}
+use Rattle.windows.specs.declared.slice_windows.Window.{Window}
 use Rattle.runs.specs.Run.{sorted}
-use Rattle.runs.specs.SliceWindows.{win, tables-of, growing, Within, Shorter}
+use Rattle.windows.specs.SliceWindows.{win, tables-of, growing, Within, Shorter}
 use Rattle.picks.specs.declared.edges.Edge.{Edge}
 use Rattle.picks.specs.declared.merge.Merging.{Merging}
 use Rattle.picks.specs.Edges.{begun, ended, left-of, right-of, Shortest, allowed, merged, sooner}

@@ -17,8 +17,8 @@ use Rattle.runs.specs.declared.search.End.the-variants.{Min, Max}
 use Rattle.runs.specs.declared.search.Reach.the-variants.{Before, UpTo}
 use Rattle.keys.specs.KeyKind.{Laws}
 use Rattle.runs.specs.Run.{sorted, span-of}
-use Rattle.runs.specs.declared.slice_windows.Window.{Window}
-use Rattle.runs.specs.SliceWindows.{win, tables-of, Within, Longer}
+use Rattle.windows.specs.declared.slice_windows.Window.{Window}
+use Rattle.windows.specs.SliceWindows.{win, tables-of, Within, Longer}
 use Rattle.picks.specs.Marks.{Marked}
 use Rattle.picks.specs.Movable.{meets-span, movable, longest-movable}
 use Rattle.picks.proofs.Bests.{Is-best, Best, best-unique, longest-best, longer-total}

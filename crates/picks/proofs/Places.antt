@@ -23,7 +23,7 @@ use Rattle.runs.specs.Search.{end-of, reaches, passed}
 use Rattle.keys.proofs.Orders.{lt-chain, lt-le}
 use Rattle.runs.proofs.Falls.{kept-between}
 use Rattle.runs.proofs.Sorteds.{drop-read, end-behind, sorted-rest, sorted-falls}
-use Rattle.runs.specs.SliceWindows.{win, tables-of}
+use Rattle.windows.specs.SliceWindows.{win, tables-of}
 use Rattle.picks.specs.Edges.{head-or, place}
 use Rattle.picks.specs.Merge.{inside-span, before-span}
 use Rattle.picks.specs.Movable.{meets-span}

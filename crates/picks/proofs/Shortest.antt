@@ -8,8 +8,8 @@ use lib.Dec.{eqb, leb, ltb}
 use Rattle.std.specs.declared.option.Option.{Option}
 use Rattle.std.specs.declared.option.Option.the-variants.{None, Some}
 use Rattle.std.proofs.shelf.Tests.{cases-bool, cases-lt, both-ways, and-parts, and-from, eqb-true, eq-eqb, leb-true, le-leb, ltb-true, lt-ltb}
-use Rattle.runs.specs.declared.slice_windows.Window.{Window}
-use Rattle.runs.specs.SliceWindows.{win, Within, Shorter}
+use Rattle.windows.specs.declared.slice_windows.Window.{Window}
+use Rattle.windows.specs.SliceWindows.{win, Within, Shorter}
 use Rattle.picks.specs.declared.edges.Edge.{Edge}
 use Rattle.picks.specs.Edges.{allowed}
 use Rattle.picks.proofs.Bests.{Is-best, Best}

@@ -12,9 +12,9 @@ use Rattle.std.specs.Orderings.{isLt}
 use Rattle.std.specs.shelf.Lists.{sumBy, countBy, kept-by}
 use Rattle.keys.specs.declared.key_range.KeyRange.{KeyRange}
 use Rattle.keys.specs.KeyRange.{inside}
-use Rattle.runs.specs.declared.slice_windows.Window.{Window}
+use Rattle.windows.specs.declared.slice_windows.Window.{Window}
 use Rattle.runs.specs.Run.{span-of}
-use Rattle.runs.specs.SliceWindows.{tables-of, growing}
+use Rattle.windows.specs.SliceWindows.{tables-of, growing}
 use Rattle.picks.specs.declared.merge.Merging.{Merging}
 use Rattle.picks.specs.Marks.{hidden-among}
 

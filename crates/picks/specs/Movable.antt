@@ -11,9 +11,9 @@ use Rattle.std.specs.declared.option.Option.the-variants.{None, Some}
 use Rattle.std.specs.shelf.Lists.{countBy}
 use Rattle.keys.specs.declared.key_range.KeyRange.{KeyRange}
 use Rattle.keys.specs.KeyRange.{meets}
-use Rattle.runs.specs.declared.slice_windows.Window.{Window}
+use Rattle.windows.specs.declared.slice_windows.Window.{Window}
 use Rattle.runs.specs.Run.{span-of}
-use Rattle.runs.specs.SliceWindows.{tables-of, shrinking}
+use Rattle.windows.specs.SliceWindows.{tables-of, shrinking}
 use Rattle.picks.specs.Marks.{hidden-among}
 
 -- the first of a list that passes

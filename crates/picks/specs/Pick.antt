@@ -5,7 +5,7 @@ use Rattle.std.specs.declared.cmp.Ordering.{Ordering}
 use Rattle.std.specs.declared.option.Option.{Option}
 use Rattle.std.specs.declared.option.Option.the-variants.{None, Some}
 use Rattle.keys.specs.declared.key_range.KeyRange.{KeyRange}
-use Rattle.runs.specs.declared.slice_windows.Window.{Window}
+use Rattle.windows.specs.declared.slice_windows.Window.{Window}
 use Rattle.picks.specs.declared.pick.Picked.{Picked}
 use Rattle.picks.specs.declared.pick.Picked.the-variants.{Move, Merge, Nothing}
 use Rattle.picks.specs.Merge.{merging, cheapest-merge}

@@ -7,8 +7,8 @@ use lib.ListN.{length}
 use Rattle.std.specs.declared.cmp.Ordering.{Ordering}
 use Rattle.std.specs.shelf.Lists.{sumBy}
 use Rattle.keys.specs.declared.key_range.KeyRange.{KeyRange}
-use Rattle.runs.specs.declared.slice_windows.Window.{Window}
-use Rattle.runs.specs.SliceWindows.{tables-of, Within, Shorter}
+use Rattle.windows.specs.declared.slice_windows.Window.{Window}
+use Rattle.windows.specs.SliceWindows.{tables-of, Within, Shorter}
 use Rattle.picks.specs.declared.merge.Merging.{Merging}
 use Rattle.picks.specs.declared.pick.Picked.{Picked}
 use Rattle.picks.specs.declared.pick.Picked.the-variants.{Move, Merge, Nothing}

@@ -16,7 +16,7 @@ use crate::edges::right_edge;
 use crate::fronts::Front;
 use crate::marks::Marks;
 use runs::ranged::TableFile;
-use runs::slice_windows::Window;
+use windows::slice_windows::Window;
 
 /// A merge of a window of the next level with the tables of the level that it contains, and the bytes of both.
 #[derive(Clone, Copy)]

@@ -12,7 +12,7 @@ use runs::ranged::TableFile;
 use runs::search::End;
 use runs::search::Reach;
 use runs::search::partition_point;
-use runs::slice_windows::Window;
+use windows::slice_windows::Window;
 
 /// The longest window without a hidden table whose span meets nothing of the next level, the leftmost among equals.
 /// The answer holds for the hidden numbers that the marks were made from.

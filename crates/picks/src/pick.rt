@@ -17,8 +17,8 @@ use crate::merge::Merging;
 use crate::merge::cheapest_merge;
 use crate::movable::longest_movable;
 use runs::ranged::TableFile;
-use runs::slice_windows::Window;
 use sheets::hidden_set::HiddenSet;
+use windows::slice_windows::Window;
 
 /// What a pick answers.
 #[derive(Clone, Copy)]

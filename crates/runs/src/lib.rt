@@ -3,5 +3,4 @@ pub mod fresh;
 pub mod ranged;
 pub mod run;
 pub mod search;
-pub mod slice_windows;
 pub mod table;

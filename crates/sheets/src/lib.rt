@@ -1,8 +1,4 @@
-//! The sheet: table records in memory that the caller lends, of which the first `count` stand.
-pub mod edits;
+//! The sheet: table records in memory that the caller lends, of which the first ones stand.
 pub mod hidden_set;
 pub mod level;
-pub mod order;
-pub mod recount;
-pub mod settling;
 pub mod sound;
