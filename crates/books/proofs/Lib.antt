@@ -1,0 +1,14 @@
+pub mod AlikeBook
+pub mod Books
+pub mod BookTests
+pub mod Booking
+pub mod Closing
+pub mod Insertions
+pub mod Keeping
+pub mod Landing
+pub mod Outputs
+pub mod Outs
+pub mod Recounts
+pub mod Slots
+pub mod SpanBounds
+pub mod Steps
