@@ -1,6 +1,6 @@
 -- On tables that are equal but for keys that compare alike, the test of a book comes out alike.
 use mathlib.Core.Path.{_≡_, refl, ap, _∙_}
-use mathlib.Core.Bool.{Bool, not, _&&_, _||_}
+use mathlib.Core.Bool.{Bool, not, _&&_}
 use mathlib.Core.List.{List, [], _∷_}
 use Prim.Native.Nat.{ℕ}
 use lib.Dec.{eqb, leb}
@@ -9,7 +9,7 @@ use Rattle.std.specs.declared.cmp.Ordering.{Ordering}
 use Rattle.std.specs.declared.option.Option.{Option}
 use Rattle.keys.specs.declared.key_range.KeyRange.{KeyRange}
 use Rattle.keys.specs.KeyRange.{meets}
-use Rattle.keys.specs.Pairing.{Both, nil, cons, Compare-alike, Twin-range}
+use Rattle.keys.specs.Pairing.{Both, nil, cons, Compare-alike}
 use Rattle.keys.proofs.Alike.{kept-alike, meets-alike}
 use Rattle.runs.specs.declared.table.Table.{Table}
 use Rattle.runs.specs.Pairing.{Twin, Twin-spans, no-span, a-span}

@@ -1,9 +1,9 @@
 -- The test of a book says that it is sound with its sheet, and the other way round.
 use mathlib.Core.Path.{_≡_, refl, sym, ap, _∙_}
-use mathlib.Core.Bool.{Bool, true, false, not, _&&_, _||_}
+use mathlib.Core.Bool.{true, false, not, _&&_, _||_}
 use mathlib.Core.List.{List, [], _∷_}
 use mathlib.Core.Logic.{inl, inr}
-use Prim.Native.Nat.{ℕ, _<_, _≤_}
+use Prim.Native.Nat.{ℕ, _≤_}
 use native.Mathlib.Omega.{arith}
 use lib.Dec.{eqb, leb}
 use lib.ListN.{length}
@@ -23,7 +23,7 @@ use Rattle.sheets.proofs.Soundness.{sound-from-test, test-from-sound}
 use Rattle.strategies.specs.declared.choice.Kind.{Kind}
 use Rattle.strategies.specs.declared.choice.Kind.the-variants.{Move, Merge, Drop}
 use Rattle.strategies.specs.Strategy.{Goes, Stands, spans-meet}
-use Rattle.books.specs.Booked.{Disjoint, pairs-by, span-held, Clear, Lanes, Unmet-held, Booked, Sound-state, is-clear, kind-ok, job-ok, is-going, crosses, jobs-apart, book-ok, state-ok}
+use Rattle.books.specs.Booked.{Disjoint, pairs-by, span-held, Lanes, Unmet-held, Booked, Sound-state, is-clear, kind-ok, job-ok, is-going, crosses, jobs-apart, book-ok, state-ok}
 use Rattle.books.specs.Job.{Running, running, held}
 use Rattle.books.specs.State.{State}
 use Rattle.books.proofs.Outs.{pairs-from, pairs-to}

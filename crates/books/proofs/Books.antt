@@ -2,8 +2,8 @@
 use mathlib.Core.Path.{_≡_, refl, sym, ap, subst, _∙_}
 use mathlib.Core.Bool.{Bool, true, false, not}
 use mathlib.Core.List.{List}
-use mathlib.Core.Logic.{_⊎_, inl, inr}
-use Prim.Native.Nat.{ℕ, _+_, _<_, _≤_}
+use mathlib.Core.Logic.{inl, inr}
+use Prim.Native.Nat.{ℕ, _≤_}
 use native.Mathlib.Omega.{arith}
 use lib.ListN.{length}
 use Rattle.std.specs.declared.cmp.Ordering.{Ordering}
@@ -16,15 +16,14 @@ use Rattle.keys.specs.KeyKind.{Laws}
 use Rattle.keys.specs.KeyRange.{meets}
 use Rattle.runs.specs.declared.table.Table.{Table}
 use Rattle.sheets.specs.HiddenSet.{showing}
-use Rattle.sheets.specs.Members.{In, Every, Pairs}
-use Rattle.sheets.specs.Sound.{Differ}
+use Rattle.sheets.specs.Members.{In, Every}
 use Rattle.sheets.specs.Tables.{memb, named}
 use Rattle.sheets.proofs.Each.{in-kept, kept-in, kept-pairs, pairs-weaker, memb-in, in-memb}
 use Rattle.strategies.specs.declared.choice.Kind.the-variants.{Move}
 use Rattle.strategies.specs.Strategy.{Goes, Stands}
 use Rattle.books.specs.Booked.{Disjoint, Lanes, Unmet-held, Booked}
 use Rattle.books.specs.Job.{Running, held}
-use Rattle.books.proofs.Outs.{Out, out-in, out-rest, out-cases, out-pairs, out-length}
+use Rattle.books.proofs.Outs.{Out, out-rest, out-cases, out-pairs, out-length}
 use Rattle.books.proofs.SpanBounds.{Misses, Apart, apart-turn, misses-from, misses-to, apart-from, apart-to}
 
 -- ---- numbers that are shown

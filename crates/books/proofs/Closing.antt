@@ -1,11 +1,10 @@
 -- Tables of a job swapped for what it brings in: sheet and book stay in order, and sound once the runs are counted anew.
-use mathlib.Core.Path.{_≡_, refl, sym, ap, subst, _∙_}
+use mathlib.Core.Path.{_≡_, sym, ap, subst, _∙_}
 use mathlib.Core.Bool.{true, false}
 use mathlib.Core.List.{List}
 use mathlib.Core.Logic.{_⊎_, inl, inr}
 use Prim.Native.Nat.{ℕ, _<_, _≤_, _^_}
 use native.Mathlib.Omega.{arith}
-use lib.ListN.{length}
 use Rattle.std.specs.declared.cmp.Ordering.{Ordering}
 use Rattle.std.proofs.shelf.Tests.{both-ways, not-true, not-from-false, cases-order}
 use Rattle.keys.specs.KeyKind.{Laws}
@@ -17,7 +16,7 @@ use Rattle.sheets.specs.Members.{In, Every, Pairs}
 use Rattle.sheets.specs.Sound.{Differ, Proper, Ordered}
 use Rattle.sheets.specs.Tables.{memb, named, unnamed, without, inserts}
 use Rattle.sheets.proofs.Ascends.{Ahead, by-level, ordered-ascends, apart-from, order-from, unmet-cases}
-use Rattle.sheets.proofs.Each.{in-kept, kept-in, kept-pairs, pairs-weaker, in-map, map-in, in-memb, memb-in}
+use Rattle.sheets.proofs.Each.{in-kept, kept-in, kept-pairs, pairs-weaker, in-map, map-in, memb-in}
 use Rattle.strategies.specs.Strategy.{Goes, Stands}
 use Rattle.books.specs.Booked.{Disjoint, Lanes, Booked}
 use Rattle.books.specs.Close.{recounted}

@@ -1,6 +1,6 @@
 -- A list of tables that ascends keeps ascending where tables are put in that stand beside all.
 use mathlib.Core.Path.{_≡_, refl, sym, subst}
-use mathlib.Core.Bool.{Bool, true, false, cond}
+use mathlib.Core.Bool.{true, false, cond}
 use mathlib.Core.List.{List, [], _∷_}
 use mathlib.Core.Logic.{_⊎_, inl, inr}
 use Prim.Native.Nat.{ℕ, _+_}
@@ -10,14 +10,13 @@ use Rattle.std.specs.Orderings.{isLt}
 use Rattle.std.specs.shelf.Lists.{sumBy}
 use Rattle.std.proofs.shelf.Sums.{sumBy-cons}
 use Rattle.keys.specs.KeyKind.{Laws}
-use Rattle.keys.specs.KeyRange.{meets}
 use Rattle.runs.specs.declared.table.Table.{Table}
 use Rattle.sheets.specs.Members.{In, here, later, Every, Pairs, none, more}
 use Rattle.sheets.specs.Sound.{Proper}
 use Rattle.sheets.specs.Tables.{sooner, insert, inserts}
-use Rattle.sheets.proofs.Ascends.{Ahead, by-level, by-run, by-key, ahead-chain, sooner-yes, sooner-no, unmet-cases}
+use Rattle.sheets.proofs.Ascends.{Ahead, by-key, ahead-chain, sooner-yes, sooner-no}
 use Rattle.sheets.proofs.Each.{none-in, in-cases}
-use Rattle.books.proofs.Outs.{Out, first, next, out-in, out-rest, out-cases, out-each, out-sum, pairs-out}
+use Rattle.books.proofs.Outs.{Out, first, next, out-rest, out-cases, out-each, out-sum, pairs-out}
 
 -- one of them is ahead of the other
 abbrev pub Beside : {K : Type 0} → (K → K → Ordering) → Table K → Table K → Type 0

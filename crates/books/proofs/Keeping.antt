@@ -3,21 +3,16 @@ use mathlib.Core.Path.{_≡_, sym, ap, subst, _∙_}
 use mathlib.Core.Bool.{false, cond}
 use mathlib.Core.List.{List, [], _∷_}
 use mathlib.Core.Logic.{inl, inr}
-use Prim.Native.Nat.{ℕ, _≤_, _^_}
+use Prim.Native.Nat.{ℕ, _≤_}
 use native.Mathlib.Omega.{arith}
 use lib.ListN.{length}
 use Rattle.std.specs.declared.cmp.Ordering.{Ordering}
-use Rattle.std.specs.declared.option.Option.{Option}
-use Rattle.std.specs.declared.option.Option.the-variants.{None, Some}
-use Rattle.std.specs.declared.result.Result.{Result}
-use Rattle.std.specs.declared.result.Result.the-variants.{Err}
+use Rattle.std.specs.declared.option.Option.the-variants.{Some}
 use Rattle.std.specs.Results.{errPart}
 use Rattle.std.proofs.shelf.Tests.{cond-true}
-use Rattle.refusals.specs.declared.refusal.Refusal.{Refusal}
 use Rattle.refusals.specs.declared.refusal.Refusal.the-variants.{NotSound}
 use Rattle.keys.specs.KeyKind.{Laws}
 use Rattle.keys.specs.KeyRange.{meets}
-use Rattle.runs.specs.declared.fresh.Fresh.{Fresh}
 use Rattle.runs.specs.declared.table.Table.{Table}
 use Rattle.sheets.specs.Members.{In, none}
 use Rattle.sheets.specs.Sound.{Differ, Unmet, Sound}
@@ -26,10 +21,10 @@ use Rattle.books.specs.Book as B
 use Rattle.books.specs.Booked.{Booked, Sound-state, state-ok}
 use Rattle.books.specs.Calls.{land, close, give-up, propose, look-ahead, book}
 use Rattle.books.specs.Close as C
-use Rattle.books.specs.Deed.{Deed, landing, asking, looking, booking, closing, giving, Reply, refusal-in, perform, Keeps, Keep}
+use Rattle.books.specs.Deed.{Deed, landing, asking, looking, booking, closing, giving, refusal-in, perform, Keeps}
 use Rattle.books.specs.Job.{running}
 use Rattle.books.specs.Land as L
-use Rattle.books.specs.Promise.{Well, Always, Stays-sound}
+use Rattle.books.specs.Promise.{Well, Stays-sound}
 use Rattle.books.specs.State.{State}
 use Rattle.books.proofs.BookTests.{test-from-state}
 use Rattle.books.proofs.SpanBounds.{unmet-turn}

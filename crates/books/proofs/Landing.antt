@@ -1,14 +1,13 @@
 -- A landing keeps book and sheet sound.
 use mathlib.Core.Path.{_≡_, refl, sym, ap, subst, _∙_}
-use mathlib.Core.Bool.{Bool, true, false, cond, _&&_}
+use mathlib.Core.Bool.{Bool, true, false, cond}
 use mathlib.Core.List.{List, [], _∷_}
 use mathlib.Core.Logic.{_⊎_, inl, inr}
-use Prim.Native.Nat.{ℕ, suc, _+_, _-_, _<_, _≤_, _^_, max}
+use Prim.Native.Nat.{ℕ, suc, _-_, _<_, _≤_, _^_, max}
 use native.Mathlib.Omega.{arith}
 use lib.Dec.{eqb}
 use lib.ListN.{length}
 use Rattle.std.specs.declared.cmp.Ordering.{Ordering}
-use Rattle.std.specs.Orderings.{isLt}
 use Rattle.std.proofs.shelf.Tests.{true≢false, cases-lt, cases-order, eq-eqb, eqb-true, eqb-false, and-cases}
 use Rattle.keys.specs.KeyKind.{Laws}
 use Rattle.keys.specs.KeyRange.{meets}
@@ -16,11 +15,10 @@ use Rattle.runs.specs.declared.fresh.Fresh.{Fresh}
 use Rattle.runs.specs.declared.table.Table.{Table}
 use Rattle.sheets.specs.Level.{size-of, in-level, runs}
 use Rattle.sheets.specs.Members.{In, here, later, Every, Pairs, some}
-use Rattle.sheets.specs.Sound.{Differ, Occupied, Counted, Proper, Ordered, Sound}
-use Rattle.sheets.specs.Tables.{memb, named, settled, insert}
+use Rattle.sheets.specs.Sound.{Differ, Occupied, Counted, Proper, Sound}
+use Rattle.sheets.specs.Tables.{named, settled}
 use Rattle.sheets.proofs.Ascends.{Ahead, by-level, by-run, ordered-ascends, apart-from, order-from}
 use Rattle.sheets.proofs.Each.{none-in, in-cases, none-some, memb-in}
-use Rattle.strategies.specs.Strategy.{Goes, Stands}
 use Rattle.books.specs.Booked.{Booked}
 use Rattle.books.specs.Job.{Running}
 use Rattle.books.specs.Land.{bars, landing-run, landed}

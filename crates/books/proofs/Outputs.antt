@@ -1,18 +1,17 @@
 -- What a closed move, merge or drop brings in may come in, where no output is at fault.
 use mathlib.Core.Path.{_≡_, refl, sym, ap, subst, _∙_}
-use mathlib.Core.Bool.{Bool, true, false, not, cond, _&&_, _||_}
+use mathlib.Core.Bool.{Bool, true, false, not, cond}
 use mathlib.Core.List.{List, [], _∷_, map}
 use mathlib.Core.Logic.{_⊎_, inl, inr}
-use Prim.Native.Nat.{ℕ, suc, _<_, _≤_, _^_}
+use Prim.Native.Nat.{ℕ, suc, _≤_, _^_}
 use native.Mathlib.Omega.{arith}
 use lib.Dec.{leb}
-use lib.ListN.{length}
 use Rattle.std.specs.declared.cmp.Ordering.{Ordering}
 use Rattle.std.specs.declared.option.Option.{Option}
 use Rattle.std.specs.declared.option.Option.the-variants.{None, Some}
 use Rattle.std.specs.Options.{mapped}
 use Rattle.std.specs.Orderings.{isLt}
-use Rattle.std.proofs.shelf.Tests.{true≢false, cases-bool, both-ways, leb-true, and-parts, and-left, or-parts, not-true, not-false, not-from-true}
+use Rattle.std.proofs.shelf.Tests.{cases-bool, both-ways, leb-true, and-parts, and-left, or-parts, not-true, not-false, not-from-true}
 use Rattle.keys.specs.declared.key_range.KeyRange.{KeyRange}
 use Rattle.keys.specs.KeyKind.{Laws}
 use Rattle.keys.specs.KeyRange.{meets}

@@ -1,14 +1,14 @@
 -- A job in the first free slot is beside the others, and where it ends they are left.
-use mathlib.Core.Path.{_≡_, refl, ap}
+use mathlib.Core.Path.{_≡_, refl, sym, ap, subst}
 use mathlib.Core.Bool.{true, false, cond}
 use mathlib.Core.List.{List, [], _∷_}
-use Prim.Native.Nat.{ℕ, suc, _+_, _<_, _≤_}
+use Prim.Native.Nat.{ℕ, suc, _<_}
 use native.Mathlib.Omega.{arith}
 use lib.Dec.{eqb}
 use lib.ListN.{length}
 use Rattle.std.specs.declared.option.Option.{Option}
 use Rattle.std.specs.declared.option.Option.the-variants.{None, Some}
-use Rattle.std.proofs.shelf.Tests.{eqb-true, eq-eqb}
+use Rattle.std.proofs.shelf.Tests.{eqb-true}
 use Rattle.books.specs.Job.{Running, job-number, is-known, running, started, found, ended}
 use Rattle.books.proofs.Outs.{Out, first, next}
 
@@ -49,3 +49,7 @@ found-out n (Some k ∷ slots) =
       | true ↦ λ e. (eqb-true _ _ e, first)
       | false ↦ λ e. behind n k (running slots) (running (ended n slots)) (found n slots) rest
     ] refl
+
+-- the same, where the slot is freed by the job's own number
+pub freed-out : (n : ℕ) (slots : List (Option Running)) (j : Running) → Found n slots (Some j) → Out j (running slots) (running (ended (job-number (j .numbers)) slots))
+freed-out n slots j w = subst (λ k. Out j (running slots) (running (ended k slots))) (sym (w .0)) (w .1)

@@ -1,8 +1,8 @@
 -- Every call keeps book and sheet sound, and none but an unsound one answers that they are not.
-use mathlib.Core.Path.{_≡_, refl, sym, ap, subst, _∙_}
-use mathlib.Core.Bool.{Bool, true, false, cond, _&&_}
+use mathlib.Core.Path.{_≡_, refl, ap, _∙_}
+use mathlib.Core.Bool.{_&&_}
 use mathlib.Core.List.{List, []}
-use Prim.Native.Nat.{ℕ, _+_, _<_, _≤_, _^_}
+use Prim.Native.Nat.{ℕ, _+_, _<_}
 use native.Mathlib.Omega.{arith}
 use lib.Dec.{eqb, leb, ltb}
 use lib.ListN.{length}
@@ -10,7 +10,7 @@ use Rattle.std.specs.declared.cmp.Ordering.{Ordering}
 use Rattle.std.specs.declared.option.Option.{Option}
 use Rattle.std.specs.declared.option.Option.the-variants.{None, Some}
 use Rattle.std.specs.declared.result.Result.{Result}
-use Rattle.std.specs.declared.result.Result.the-variants.{Ok, Err}
+use Rattle.std.specs.declared.result.Result.the-variants.{Err}
 use Rattle.std.specs.Results.{errPart}
 use Rattle.std.proofs.shelf.Tests.{cond-both, and-parts, leb-true, ltb-true, eqb-false}
 use Rattle.refusals.specs.declared.refusal.Refusal.{Refusal}
@@ -18,14 +18,8 @@ use Rattle.refusals.specs.declared.refusal.Refusal.the-variants.{NotSound, NoSu
 use Rattle.refusals.specs.Refusal.{number-of}
 use Rattle.keys.specs.KeyKind.{Laws}
 use Rattle.runs.specs.declared.fresh.Fresh.{Fresh}
-use Rattle.runs.specs.declared.table.Table.{Table}
-use Rattle.sheets.specs.HiddenSet.{hiding, showing}
-use Rattle.sheets.specs.Level.{size-of}
 use Rattle.sheets.specs.Members.{some}
-use Rattle.sheets.specs.Sound.{Sound}
-use Rattle.sheets.specs.Tables.{without, inserts}
 use Rattle.sheets.proofs.Hiding.{hiding-short}
-use Rattle.strategies.specs.declared.choice.Choice.{Choice}
 use Rattle.strategies.specs.declared.declined.Declined.{Declined}
 use Rattle.strategies.specs.declared.declined.Declined.the-variants.{BadSetting, ManyRuns, HiddenTable}
 use Rattle.strategies.specs.Answer.{Chosen, Answer, nothing, chooses, declines, refusal-of, asked}
@@ -33,40 +27,20 @@ use Rattle.strategies.specs.Fifo.{place-of}
 use Rattle.strategies.specs.Strategy.{Lawful, Lawful-answer, Law}
 use Rattle.books.specs.Book as B
 use Rattle.books.specs.Book.{Question, Left, Booking, job-of, second, look-on, taken, book-choice, book-answer}
-use Rattle.books.specs.Booked.{span-held, Booked, Sound-state, crosses}
+use Rattle.books.specs.Booked.{span-held, Sound-state, crosses}
 use Rattle.books.specs.Close as C
-use Rattle.books.specs.Close.{first-fault, bad-table, bad-outputs, arrivals, recounted, closed, settled-or-full, unless-outputs, unless-tables, close-found, give-up-found}
-use Rattle.books.specs.Job.{Running, job-number, running, started, found, ended}
+use Rattle.books.specs.Close.{first-fault, bad-table, bad-outputs, closed, settled-or-full, unless-outputs, unless-tables, close-found, give-up-found}
+use Rattle.books.specs.Job.{Running, job-number, running, found, ended}
 use Rattle.books.specs.Land as L
 use Rattle.books.specs.Land.{has-room, fresh-ok, landed}
 use Rattle.books.specs.State.{State}
 use Rattle.books.proofs.Booking.{booking-keeps}
 use Rattle.books.proofs.Books.{take-out}
-use Rattle.books.proofs.Closing.{swapped, swapped-booked, recount-booked}
+use Rattle.books.proofs.ClosedJobs.{room-parts, closed-booked, closed-sound}
 use Rattle.books.proofs.Landing.{landed-sound, landed-booked}
-use Rattle.books.proofs.Outputs.{Good, good-fresh, arrives}
-use Rattle.books.proofs.Outs.{Out, out-in, out-length}
-use Rattle.books.proofs.Recounts.{recount-size, recount-sound}
-use Rattle.books.proofs.Slots.{started-out, started-length, ended-length, Found, found-out}
-
-pub room-parts : {K : Type 0} (room : ℕ) (ts : List (Table K)) → has-room room ts ≡ true → (length ts ≤ room) × (size-of ts ≤ 2 ^ 53)
-room-parts room ts h = let p = and-parts (leb (length ts) room) (leb (size-of ts) (2 ^ 53)) h in (leb-true _ _ (p .0), leb-true _ _ (p .1))
-
--- ---- a closed job
-module _ {K : Type 0} {cmp : K → K → Ordering} (laws : Laws cmp) {room standing blobs : ℕ} {ts : List (Table K)} {hidden : List ℕ} {jobs rest : List Running} {j : Running}
-    (s : Sound cmp room standing blobs ts) (b : Booked cmp ts hidden jobs) (o : Out j jobs rest) (outs : List (Fresh K))
-    (fresh : first-fault (bad-table cmp ts) [] outs ≡ None) (good : bad-outputs cmp (j .kind) (span-held cmp ts j) outs ≡ None) where
-  abbrev swap : List (Table K)
-  swap = inserts cmp (without (j .numbers) ts) (arrivals (j .kind) (j .destination) (j .numbers) outs ts)
-
-  pub closed-booked : Booked cmp (closed cmp j outs ts) (showing (j .numbers) hidden) rest
-  closed-booked = recount-booked laws swap (swapped-booked laws (s .ordered) b o (arrives laws (s .ordered) b (out-in o) outs fresh good))
-
-  pub closed-sound : has-room room (closed cmp j outs ts) ≡ true → Sound cmp room (length (closed cmp j outs ts)) blobs (closed cmp j outs ts)
-  closed-sound h =
-      let p = room-parts room (closed cmp j outs ts) h in
-      recount-sound swap laws (s .few) (p .0) (s .blob)
-      (swapped laws (s .ordered) b o (arrives laws (s .ordered) b (out-in o) outs fresh good) (omega (arith, p .1, recount-size swap)))
+use Rattle.books.proofs.Outputs.{good-fresh}
+use Rattle.books.proofs.Outs.{Out, out-length}
+use Rattle.books.proofs.Slots.{started-out, started-length, ended-length, Found, found-out, freed-out}
 
 -- ---- refusals that are not the one of an unsound book
 abbrev numbered : Option Refusal → ℕ
@@ -149,19 +123,16 @@ module _ {K : Type 0} {cmp : K → K → Ordering} (laws : Laws cmp) (st : State
       granted,
     )
 
-  found-at : (n : ℕ) (j : Running) → Found n (st .slots) (Some j) → Out j (running (st .slots)) (running (ended (job-number (j .numbers)) (st .slots)))
-  found-at n j w = subst (λ k. Out j (running (st .slots)) (running (ended k (st .slots)))) (sym (w .0)) (w .1)
-
   close-at : (n : ℕ) (outs : List (Fresh K)) (o : Option Running) → Found n (st .slots) o → Ends (close-found cmp o outs st)
   close-at n outs None w = refuses NoSuchJob (omega arith)
-  close-at n outs (Some j) w = tables-keep j (found-at n j w) outs (first-fault (bad-table cmp (st .tables)) [] outs) refl
+  close-at n outs (Some j) w = tables-keep j (freed-out n (st .slots) j w) outs (first-fault (bad-table cmp (st .tables)) [] outs) refl
 
   pub close-keeps : (n : ℕ) (outs : List (Fresh K)) → Ends (C.close cmp n outs st)
   close-keeps n outs = close-at n outs (found n (st .slots)) (found-out n (st .slots))
 
   give-up-at : (n : ℕ) (o : Option Running) → Found n (st .slots) o → Ends (give-up-found cmp o st)
   give-up-at n None w = refuses NoSuchJob (omega arith)
-  give-up-at n (Some j) w = freed-keeps j (found-at n j w)
+  give-up-at n (Some j) w = freed-keeps j (freed-out n (st .slots) j w)
 
   pub give-up-keeps : (n : ℕ) → Ends (C.give-up cmp n st)
   give-up-keeps n = give-up-at n (found n (st .slots)) (found-out n (st .slots))
@@ -180,16 +151,15 @@ module _ {K : Type 0} {cmp : K → K → Ordering} (laws : Laws cmp) (st : State
 
   choice-keeps : (c : Chosen) → Lawful cmp (st .tables) c → (ids : List ℕ) → Leaves (book-choice cmp c st ids)
   choice-keeps c law ids =
-      let jobs = running (st .slots) in
-      let no : (e : Refusal) → 1 < number-of e → Leaves {R = Booking} (record { state = st; ids = ids; result = Err e }) = λ e h. (s, unlike e h) in
-      cond-both (ltb (length ids) (length (c .numbers))) _ _ Leaves (λ _. no IdsTooShort (omega arith)) (λ _.
-      cond-both (eqb (length (c .numbers)) 0) _ _ Leaves (λ _. no NamesNoTable (omega arith)) (λ full.
-      cond-both (some (taken (st .hidden) c) (st .tables)) _ _ Leaves (λ _. no (AlreadyHidden (place-of (taken (st .hidden) c) (st .tables))) (omega arith)) (λ free.
-      cond-both (some (crosses cmp (st .tables) (job-of c)) jobs) _ _ Leaves (λ _. no SpanTaken (omega arith)) (λ clear.
-      cond-both (ltb (length jobs) 8 && leb (length (st .hidden) + length (c .numbers)) 256) _ _ Leaves
+      let P = Leaves {R = Booking} in
+      cond-both (ltb (length ids) (length (c .numbers))) _ _ P (λ _. (s, unlike IdsTooShort (omega arith))) (λ _.
+      cond-both (eqb (length (c .numbers)) 0) _ _ P (λ _. (s, unlike NamesNoTable (omega arith))) (λ full.
+      cond-both (some (taken (st .hidden) c) (st .tables)) _ _ P (λ _. (s, unlike (AlreadyHidden (place-of (taken (st .hidden) c) (st .tables))) (omega arith))) (λ free.
+      cond-both (some (crosses cmp (st .tables) (job-of c)) (running (st .slots))) _ _ P (λ _. (s, unlike SpanTaken (omega arith))) (λ clear.
+      cond-both (ltb (length (running (st .slots))) 8 && leb (length (st .hidden) + length (c .numbers)) 256) _ _ P
       (λ fits.
-      let p = and-parts (ltb (length jobs) 8) (leb (length (st .hidden) + length (c .numbers)) 256) fits in
-      let few = ltb-true (length jobs) 8 (p .0) in
+      let p = and-parts (ltb (length (running (st .slots))) 8) (leb (length (st .hidden) + length (c .numbers)) 256) fits in
+      let few = ltb-true (length (running (st .slots))) 8 (p .0) in
       let o = started-out (job-of c) (st .slots) (omega (arith, s .eight)) in
       let some-named : length (c .numbers) ≡ 0 → ⊥ = eqb-false (length (c .numbers)) 0 full in (
         record {
@@ -200,7 +170,7 @@ module _ {K : Type 0} {cmp : K → K → Ordering} (laws : Laws cmp) (st : State
         },
         granted,
       ))
-      (λ _. no BookFull (omega arith))))))
+      (λ _. (s, unlike BookFull (omega arith)))))))
 
   book-at : (a : Answer) → Lawful-answer cmp (st .tables) a → (ids : List ℕ) → Leaves (book-answer cmp a st ids)
   book-at nothing law ids = (s, unlike NamesNoTable (omega arith))

@@ -50,13 +50,16 @@ names choice-of (Ok r) ids = take (count-named (choice-of r)) ids
 names choice-of (Err e) ids = []
 
 module _ {K : Type 0} where
-  abbrev as-ended : State K × Result (Unit {0}) Refusal → State K × Reply
+  -- the reply of a call that asks no strategy
+  abbrev pub as-ended : State K × Result (Unit {0}) Refusal → State K × Reply
   as-ended w = (w .0, ended (w .1))
 
-  abbrev as-chosen : Left K Choice → State K × Reply
+  -- the reply of a question, and of a look ahead
+  abbrev pub as-chosen : Left K Choice → State K × Reply
   as-chosen l = (l .state, chosen (l .result) (names (λ c. c) (l .result) (l .ids)))
 
-  abbrev as-booked : Left K Booking → State K × Reply
+  -- the reply of a booking
+  abbrev pub as-booked : Left K Booking → State K × Reply
   as-booked l = (l .state, booked (l .result) (names (λ b. b .choice) (l .result) (l .ids)))
 
 module _ {K : Type 0} (cmp : K → K → Ordering) where

@@ -2,19 +2,20 @@
 use mathlib.Core.Path.{_≡_}
 use mathlib.Core.Bool.{false}
 use mathlib.Core.List.{List, [], _∷_}
-use Prim.Native.Nat.{ℕ, _≤_}
+use Prim.Native.Nat.{_≤_}
+use lib.ListN.{length}
 use Rattle.std.specs.declared.cmp.Ordering.{Ordering}
-use Rattle.std.specs.declared.option.Option.{Option}
 use Rattle.std.specs.declared.option.Option.the-variants.{Some}
-use Rattle.refusals.specs.declared.refusal.Refusal.{Refusal}
 use Rattle.refusals.specs.declared.refusal.Refusal.the-variants.{NotSound}
 use Rattle.keys.specs.KeyRange.{meets}
 use Rattle.keys.specs.Pairing.{Both, Compare-alike}
 use Rattle.runs.specs.declared.table.Table.{Table}
 use Rattle.sheets.specs.Members.{In, Pairs}
 use Rattle.sheets.specs.Sound.{Differ}
+use Rattle.strategies.specs.Strategy.{Law}
+use Rattle.books.specs.Book.{Question, ahead-of}
 use Rattle.books.specs.Booked.{Disjoint, Sound-state}
-use Rattle.books.specs.Deed.{Deed, Reply, refusal-in, perform, after, said, Keep}
+use Rattle.books.specs.Deed.{Deed, refusal-in, perform, after, said, Keep}
 use Rattle.books.specs.Job.{running}
 use Rattle.books.specs.Pairing.{Twin-state, Twin-deed}
 use Rattle.books.specs.State.{State}
@@ -35,6 +36,10 @@ module _ {K : Type 0} (cmp : K → K → Ordering) where
   -- for every list of calls whose questions keep the law, from every sound state
   abbrev pub Stays-sound : Type 0
   Stays-sound = (ds : List (Deed K)) (st : State K) → Keep cmp ds → Sound-state cmp st → Always ds st
+
+  -- in every sound state, for every question that keeps the law, looking ahead hides at most 1,024 numbers in all
+  abbrev pub Looks-within : Type 0
+  Looks-within = (g : Question K) (st : State K) → Law cmp g → Sound-state cmp st → length (ahead-of (st .hidden) (g (st .tables) (st .hidden))) ≤ 1024
 
 -- ---- alike
 module _ {A B : Type 0} (cmpA : A → A → Ordering) (cmpB : B → B → Ordering) where

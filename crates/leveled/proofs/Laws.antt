@@ -37,8 +37,8 @@ use Rattle.strategies.specs.Answer.{Chosen, Answer, chooses, naming}
 use Rattle.strategies.specs.Strategy.{Lawful-answer, Told, Law}
 use Rattle.leveled.specs.Leveled.{deeper, one-run, first-filled, falls, lowered, first-level, score-of, scores, met, zero-and, sinks, slides, zero-won, moved, covered, merged, picked, pick-for, won, from-first, leveled}
 use Rattle.leveled.proofs.LevelRuns.{Before, in-level-of, level-line, level-sides, level-unmet}
-use Rattle.leveled.proofs.NamingLaws.{Told-answer, merge-moves, naming-told, naming-lawful}
-use Rattle.leveled.proofs.NamingParts.{in-named}
+use Rattle.strategies.proofs.NamingLaws.{Told-answer, merge-moves, naming-told, naming-lawful}
+use Rattle.strategies.proofs.NamingParts.{in-named}
 use Rattle.leveled.proofs.NamingSpans.{Beside, beside-unmet, unmet-beside, apart-beside, inside-ends, inside-begins}
 use Rattle.leveled.proofs.Stretches.{window-level, window-named, moved-is}
 use Rattle.leveled.proofs.WindowSides.{window-sides, count-none}

@@ -3,8 +3,6 @@ pub mod Laws
 pub mod Layouts
 pub mod LevelRuns
 pub mod NamingAlike
-pub mod NamingLaws
-pub mod NamingParts
 pub mod NamingSpans
 pub mod Picks
 pub mod Stretches

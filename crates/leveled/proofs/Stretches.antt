@@ -24,7 +24,7 @@ use Rattle.picks.specs.Merge.{inside-span, contained, cost}
 use Rattle.picks.specs.Movable.{meets-span}
 use Rattle.levels.specs.declared.settings.Settings.{Settings}
 use Rattle.leveled.specs.Leveled.{met, zero-and, moved, covered, merged}
-use Rattle.leveled.proofs.NamingParts.{Part, part-kept, part-take, part-drop, part-chain, part-in, kept-twice, named-part, named-in, kept-levels}
+use Rattle.strategies.proofs.NamingParts.{Part, part-kept, part-take, part-drop, part-chain, part-in, kept-twice, named-part, named-in, kept-levels}
 
 module _ {K : Type 0} (cmp : K → K → Ordering) (s : Settings) (ts : List (Table K)) (hs : List ℕ) where
   -- what each step names: level 0 and then what meets it; a window; what a window contains and then the window, with their bytes

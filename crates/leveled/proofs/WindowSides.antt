@@ -12,7 +12,7 @@ use Rattle.windows.specs.declared.slice_windows.Window.{Window}
 use Rattle.windows.specs.SliceWindows.{tables-of}
 use Rattle.sheets.specs.Members.{In, here, later, Pairs, none, more}
 use Rattle.sheets.proofs.Each.{none-in, in-cases}
-use Rattle.leveled.proofs.NamingParts.{part-take, part-drop, part-in}
+use Rattle.strategies.proofs.NamingParts.{part-take, part-drop, part-in}
 
 zero-test : (b : Bool) → _≡_ {A = ℕ} (cond b 1 0) 0 → b ≡ false
 zero-test true h = absurd (omega arith)

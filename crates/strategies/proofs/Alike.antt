@@ -6,7 +6,7 @@ use Prim.Native.Nat.{ℕ}
 use lib.ListN.{length}
 use Rattle.std.specs.shelf.Lists.{kept-by}
 use Rattle.keys.specs.Pairing.{Both}
-use Rattle.keys.proofs.Alike.{length-alike, sum-alike, kept-alike, map-same}
+use Rattle.keys.proofs.Alike.{sum-alike, kept-alike, map-same}
 use Rattle.runs.specs.declared.table.Table.{Table}
 use Rattle.runs.specs.Pairing.{Twin}
 use Rattle.sheets.specs.Level.{numbers-of, size-of}
@@ -24,7 +24,7 @@ module _ {A B : Type 0} (R : A → B → Type 0) where
     kept = kept-alike (Twin R) p q same w
 
     pub named-alike : (places : ℕ) → named p ts places ≡ named q us places
-    named-alike places = rw (size-alike w, length-alike (Twin R) kept, size-alike kept)
+    named-alike places = rw (size-alike w, numbers-alike kept, size-alike kept)
 
     pub written-alike : (ids : List ℕ) → written p ts ids ≡ written q us ids
-    written-alike ids = rw (size-alike w, length-alike (Twin R) kept, numbers-alike kept)
+    written-alike ids = rw (size-alike w, numbers-alike kept)

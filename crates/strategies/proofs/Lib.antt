@@ -1,4 +1,13 @@
 pub mod Alike
+pub mod Asking
+pub mod FifoSteps
 pub mod Granted
+pub mod Laws
+pub mod NamingLaws
+pub mod NamingParts
+pub mod Places
+pub mod Searching
+pub mod Taking
+pub mod Tested
 pub mod Weighing
 pub mod Writing

@@ -9,16 +9,18 @@ use lib.ListN.{length, drop, getD}
 use Rattle.std.specs.declared.result.Result.{Result}
 use Rattle.std.specs.declared.result.Result.the-variants.{Ok, Err}
 use Rattle.std.specs.shelf.Lists.{kept-by}
-use Rattle.std.proofs.shelf.Lists.{drop-all}
+use Rattle.std.proofs.shelf.Lists.{drop-all, length-map}
 use Rattle.std.proofs.shelf.Sums.{sumBy-cons}
+use Rattle.std.proofs.shelf.Tests.{le-leb}
 use Rattle.std.proofs.shelf.Ways.{tells}
 use Rattle.refusals.specs.declared.refusal.Refusal.{Refusal}
-use Rattle.refusals.specs.declared.refusal.Refusal.the-variants.{NotSound}
+use Rattle.refusals.specs.declared.refusal.Refusal.the-variants.{NotSound, IdsTooShort}
 use Rattle.runs.specs.declared.table.Table.{Table}
 use Rattle.runs.proofs.Sorteds.{drop-read}
 use Rattle.strategies.specs.declared.naming.Named.{Named}
-use Rattle.sheets.specs.Level.{size-of}
-use Rattle.strategies.specs.Naming.{weighed}
+use Rattle.sheets.specs.Edits.{laid}
+use Rattle.sheets.specs.Level.{numbers-of, size-of}
+use Rattle.strategies.specs.Naming.{passing, weighed, named, written}
 
 module _ {K : Type 0} (p : Table K → Bool) (ts : List (Table K)) where
   -- before place i: `left` is what the limit leaves, `count` and `bytes` what has passed
@@ -72,7 +74,30 @@ module _ {K : Type 0} (p : Table K → Bool) (ts : List (Table K)) where
   pub weigh-all : (left count bytes i : ℕ) → length ts ≤ i → Weighing left count bytes i → _≡_ {A = Result Named Refusal} (Ok (record { count = count; bytes = bytes })) (weighed p ts)
   weigh-all left count bytes i le h =
       let none : drop i ts ≡ [] = drop-all i ts le in
-      let c : count ≡ length (kept-by p ts) = omega (arith, h .counted, ap (λ us. length (kept-by p us)) none) in
+      let c : count ≡ length (numbers-of (kept-by p ts)) = omega (arith, h .counted, ap (λ us. length (kept-by p us)) none, length-map (kept-by p ts) (λ t. t .number)) in
       let b : bytes ≡ size-of (kept-by p ts) = omega (arith, h .summed, ap (λ us. size-of (kept-by p us)) none) in
       let small : size-of ts ≤ 2 ^ 53 = omega (arith, h .limit, ap size-of none) in
-      ap (λ n. Ok (record { count = n; bytes = bytes })) c ∙ ap (λ n. Ok (record { count = length (kept-by p ts); bytes = n })) b ∙ grind (arith, tells)
+      ap (λ n. Ok (record { count = n; bytes = bytes })) c ∙ ap (λ n. Ok (record { count = length (numbers-of (kept-by p ts)); bytes = n })) b ∙ grind (arith, tells)
+
+-- what passed the test of all sizes, in an id sheet with a place for each
+module _ {K : Type 0} (p : Table K → Bool) (ts : List (Table K)) (n : Named) (ok : _≡_ {A = Result Named Refusal} (Ok n) (weighed p ts)) where
+  passed : (b : Bool) → _≡_ {A = Result Named Refusal} (Ok n) (cond b (Ok (passing p ts)) (Err NotSound)) → (b ≡ true) × (n ≡ passing p ts)
+  passed true e = (refl, cc)
+  passed false e = absurd (let z : _≡_ {A = ℕ} 0 1 = cc in omega arith)
+
+  abbrev light : (leb (size-of ts) (2 ^ 53) ≡ true) × (n ≡ passing p ts)
+  light = passed (leb (size-of ts) (2 ^ 53)) ok
+
+  module _ (places : ℕ) (room : n .count ≤ places) where
+    fits : leb (length (numbers-of (kept-by p ts))) places ≡ true
+    fits = le-leb _ _ (omega (arith, ap (λ m. m .count) (light .1)))
+
+    pub named-is : (m : Named) → m ≡ passing p ts → _≡_ {A = Result Named Refusal} (Ok m) (named p ts places)
+    named-is m e =
+        ap (λ k. Ok k) e
+        ∙ sym (ap (λ b. cond b (cond (leb (length (numbers-of (kept-by p ts))) places) (weighed p ts) (Err IdsTooShort)) (Err NotSound)) (light .0) ∙ ap (λ b. cond b (weighed p ts) (Err IdsTooShort)) fits ∙ (sym ok ∙ ap (λ k. Ok k) (light .1)))
+
+  pub written-is : (ids : List ℕ) → n .count ≤ length ids → written p ts ids ≡ laid (numbers-of (kept-by p ts)) ids
+  written-is ids room =
+      ap (λ b. cond b (cond (leb (length (numbers-of (kept-by p ts))) (length ids)) (laid (numbers-of (kept-by p ts)) ids) ids) ids) (light .0)
+      ∙ ap (λ b. cond b (laid (numbers-of (kept-by p ts)) ids) ids) (fits (length ids) room)

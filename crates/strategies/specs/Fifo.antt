@@ -30,32 +30,38 @@ module _ {K : Type 0} where
   abbrev pub hidden-first : List ℕ → Table K → Bool
   hidden-first hs t = in-level 0 t && named hs t
 
--- with a limit in bytes, a time to live in seconds (0 for none), the blob total and the clock in nanoseconds
-module _ {K : Type 0} (limit ttl blobs clock : ℕ) where
+-- with a time to live in seconds (0 for none) and the clock in nanoseconds
+module _ {K : Type 0} (ttl clock : ℕ) where
   -- created at least the time to live before the clock
   abbrev pub expired : Table K → Bool
   expired t = not (eqb ttl 0) && leb (t .created + ttl * 1000000000) clock
+
+  -- a table of level 0 that has expired
+  abbrev pub expired-first : Table K → Bool
+  expired-first t = in-level 0 t && expired t
 
   -- a table of level 0 that has not expired
   abbrev pub live : Table K → Bool
   live t = in-level 0 t && not (expired t)
 
   -- what is left of level 0's sizes and the blob total without what has expired, down to 0
-  abbrev pub left-over : List (Table K) → ℕ
-  left-over ts = (size-of (level-of 0 ts) + blobs) - sumBy weight (kept-by (λ t. in-level 0 t && expired t) ts)
+  abbrev pub left-over : ℕ → List (Table K) → ℕ
+  left-over blobs ts = (size-of (level-of 0 ts) + blobs) - sumBy weight (kept-by expired-first ts)
 
   -- the weight of all older live tables together
   abbrev pub older-weight : List (Table K) → Table K → ℕ
   older-weight ts t = sumBy weight (kept-by (λ u. live u && older ts t u) ts)
 
   -- a table of level 0 goes if it has expired, or if what is left exceeds the limit by more than all older live tables weigh
-  abbrev pub goes : List (Table K) → Table K → Bool
-  goes ts t = in-level 0 t && (expired t || ltb (limit + older-weight ts t) (left-over ts))
+  abbrev pub goes : ℕ → ℕ → List (Table K) → Table K → Bool
+  goes limit left ts t = in-level 0 t && (expired t || ltb (limit + older-weight ts t) left)
 
+-- with a limit in bytes and the blob total besides
+module _ {K : Type 0} (limit ttl blobs clock : ℕ) where
   -- nothing on an empty level 0; refused on two runs, then on a hidden table; else a drop of what goes, if anything does
   abbrev pub fifo : List (Table K) → List ℕ → Answer
   fifo ts hs =
       cond (not (some (in-level 0) ts)) nothing
       (cond (ltb 1 (runs ts)) (declines ManyRuns)
       (cond (some (hidden-first hs) ts) (declines (HiddenTable (place-of (hidden-first hs) ts)))
-      (cond (some (goes ts) ts) (naming Drop 0 0 0 (goes ts) ts) nothing)))
+      (cond (some (goes ttl clock limit (left-over ttl clock blobs ts) ts) ts) (naming Drop 0 0 0 (goes ttl clock limit (left-over ttl clock blobs ts) ts) ts) nothing)))

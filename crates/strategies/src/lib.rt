@@ -5,4 +5,6 @@ pub mod drop_range;
 pub mod fifo;
 pub mod major;
 pub mod naming;
+pub mod outgoing;
+pub mod question;
 pub mod strategy;

@@ -17,11 +17,11 @@ use Rattle.sheets.specs.Members.{In, Pairs, none, more}
 use Rattle.sheets.specs.Sound.{Differ}
 use Rattle.sheets.specs.Tables.{named}
 use Rattle.sheets.proofs.Each.{in-kept, kept-in, kept-pairs, in-map}
 use Rattle.strategies.specs.declared.choice.Kind.{Kind}
 use Rattle.strategies.specs.declared.choice.Kind.the-variants.{Move, Merge, Drop}
 use Rattle.strategies.specs.Answer.{Answer, nothing, chooses, declines, naming}
 use Rattle.strategies.specs.Strategy.{Goes, Told, Lawful-answer}
-use Rattle.leveled.proofs.NamingParts.{same-named, in-named}
+use Rattle.strategies.proofs.NamingParts.{same-named, in-named}
 
 -- a choice says what it names; doing nothing and refusing say nothing
 abbrev pub Told-answer : {K : Type 0} → (K → K → Ordering) → List (Table K) → Answer → Type 0

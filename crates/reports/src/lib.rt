@@ -1,0 +1,2 @@
+//! The planner's answers as text.
+pub mod report;

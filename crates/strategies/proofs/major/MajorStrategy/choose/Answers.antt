@@ -1,0 +1,10 @@
+use mathlib.Core.Bool.{true}
+use Rattle.strategies.proofs.Tested.{tested-light, room-for-some}
+use Rattle.strategies.proofs.major.MajorStrategy.choose.Needs as need
+
+pub name-passing-requires : need.name-passing-requires
+name-passing-requires g c κs =
+    record {
+      light = tested-light (g .K·KeyKind·met .total) (c .args .tables .now) (c .pre .sound);
+      room = room-for-some (λ t. true) (c .args .tables .now) _ (c .pre .room);
+    }

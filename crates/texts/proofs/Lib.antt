@@ -1,0 +1,4 @@
+pub mod Comments
+mod Hexes
+mod Numbers
+mod Stops

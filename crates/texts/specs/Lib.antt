@@ -1,0 +1,4 @@
+pub mod Field
+pub mod Hex
+pub mod KeyText
+pub mod Words
