@@ -1,4 +1,6 @@
-//! Examples for keys, runs and naming, each proved and then run.
+//! Examples for keys, runs, windows, edits of a sheet and naming, each proved and then run.
+#[cfg(test)]
+mod edits_tests;
 #[cfg(test)]
 mod keys_tests;
 #[cfg(test)]
@@ -7,3 +9,5 @@ mod naming_tests;
 mod runs_tests;
 #[cfg(test)]
 mod samples;
+#[cfg(test)]
+mod windows_tests;
