@@ -1,11 +1,11 @@
 //! Records put in, taken out and changed in a lent slice.
 use crate::samples::standing;
+use edits::records::change_level;
+use edits::records::insert_at;
+use edits::records::remove_all;
+use edits::records::remove_at;
 use keys::stop_key::StopKey;
 use runs::table::Table;
-use sheets::edits::change_level;
-use sheets::edits::insert_at;
-use sheets::edits::remove_all;
-use sheets::edits::remove_at;
 use std::test::*;
 
 fn numbers(sheet: &[Table<StopKey>; 4], expected: [u64; 4]) -> Result<(), Fail> {

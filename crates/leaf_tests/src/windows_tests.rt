@@ -7,12 +7,12 @@ use keys::stop_key::StopKeyKind;
 use refusals::refusal::Refusal;
 use runs::fresh::FreshTableFile;
 use runs::ranged::TableFile;
-use runs::slice_windows::Windows;
-use runs::slice_windows::growing_windows;
-use runs::slice_windows::shrinking_windows;
 use runs::table::Table;
 use runs::table::TableTableFile;
 use std::test::*;
+use windows::slice_windows::Windows;
+use windows::slice_windows::growing_windows;
+use windows::slice_windows::shrinking_windows;
 
 // A window that is to be read: where it starts, how many tables it has, and their bytes.
 type Expected = (usize, usize, u64);

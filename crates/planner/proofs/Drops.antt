@@ -10,7 +10,7 @@ use Rattle.std.specs.declared.result.Result.{Result}
 use Rattle.std.specs.declared.result.Result.the-variants.{Ok, Err}
 use Rattle.std.specs.shelf.Lists.{kept-by}
 use Rattle.std.proofs.shelf.Filters.{length-kept-by-both}
-use Rattle.std.proofs.shelf.Lists.{drop-all, drop-more}
+use Rattle.std.proofs.shelf.Lists.{drop-all, drop-more, length-map}
 use Rattle.std.proofs.shelf.Ways.{tells}
 use Rattle.refusals.specs.declared.refusal.Refusal.{Refusal}
 use Rattle.refusals.specs.declared.refusal.Refusal.the-variants.{NotSound, IdsTooShort}
@@ -24,9 +24,10 @@ use Rattle.planner.specs.Desk.{NamingLine, table-lines}
 
 module _ {K : Type 0} (p : Table K → Bool) (ts : List (Table K)) where
   -- as many places as tables are enough
-  few : (places k : ℕ) → k ≡ min places (length ts) → leb (length (kept-by p ts)) k ≡ leb (length (kept-by p ts)) places
+  few : (places k : ℕ) → k ≡ min places (length ts) → leb (length (numbers-of (kept-by p ts))) k ≡ leb (length (numbers-of (kept-by p ts))) places
   few places k e =
       let both = length-kept-by-both p (λ t. not (p t)) (λ t. refl) ts in
+      let long = length-map (kept-by p ts) (λ t. t .number) in
       grind (arith, tells)
 
   pub places-enough : (places k : ℕ) → k ≡ min places (length ts) → named p ts k ≡ named p ts places

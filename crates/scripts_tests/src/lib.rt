@@ -1,0 +1,3 @@
+//! Lines of a script, read: what is well formed, and what is not.
+#[cfg(test)]
+mod tests;
