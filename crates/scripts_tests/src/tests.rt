@@ -14,38 +14,38 @@ use texts::key_text::StopKeyText;
 
 // What comes of a line under keys of a kind.
 #[derive(Clone, Copy)]
-enum Read {
+enum Outcome {
     Blank,
     Command,
     Malformed,
     Refused,
 }
 
-fn read<K: KeyText + Drop>(heap: Global, text: &str) -> Read {
+fn read<K: KeyText + Drop>(heap: Global, text: &str) -> Outcome {
     match Line::read(text) {
         Ok(Line::Call(word, mut words)) => {
             let command: Result<Command<K>, Fault> = Command::read(heap, word, &mut words);
             match command {
-                Ok(_) => Read::Command,
-                Err(Fault::Refused(_)) => Read::Refused,
-                Err(_) => Read::Malformed,
+                Ok(_) => Outcome::Command,
+                Err(Fault::Refused(_)) => Outcome::Refused,
+                Err(_) => Outcome::Malformed,
             }
         }
-        Ok(_) => Read::Blank,
-        Err(_) => Read::Malformed,
+        Ok(_) => Outcome::Blank,
+        Err(_) => Outcome::Malformed,
     }
 }
 
-fn is_read(r: Read) -> bool {
+fn is_read(r: Outcome) -> bool {
     match r {
-        Read::Command => true,
+        Outcome::Command => true,
         _ => false,
     }
 }
 
-fn is_malformed(r: Read) -> bool {
+fn is_malformed(r: Outcome) -> bool {
     match r {
-        Read::Malformed => true,
+        Outcome::Malformed => true,
         _ => false,
     }
 }
@@ -81,7 +81,7 @@ fn a_long_key_is_refused(rt: LibcRuntime) -> Result<(), Fail> {
     let heap = rt.alloc();
     let line = "land 1 - 000102030405060708090a0b0c0d0e0f101112131415161718191a1b1c1d1e1f20 3 4 5";
     match read::<ByteKey>(heap, line) {
-        Read::Refused => Ok(()),
+        Outcome::Refused => Ok(()),
         _ => Err(Fail::new("not refused")),
     }
 }
