@@ -29,7 +29,7 @@ use Rattle.strategies.specs.declared.choice.Kind.the-variants.{Move, Merge}
 use Rattle.strategies.specs.declared.declined.Declined.the-variants.{BadSetting}
 use Rattle.strategies.specs.Answer.{declines}
 use Rattle.leveled.specs.Leveled.{deeper, one-run, first-filled, overfull, falls, lowered, first-level, score-of, scores, met, zero-and, sinks, slides, zero-won, moved, covered, merged, picked, pick-for, won, from-first, leveled}
-use Rattle.leveled.proofs.NamingAlike.{cond-same, and-same, or-same, some-same, all-same, map-like, Tests-alike, naming-alike, spans-meet-alike}
+use Rattle.strategies.proofs.NamingAlike.{cond-same, and-same, or-same, some-same, all-same, map-like, Tests-alike, naming-alike, spans-meet-alike}
 
 -- ---- levels and scores
 module _ {A B : Type 0} (R : A → B → Type 0) {ts : List (Table A)} {us : List (Table B)} (w : Both (Twin R) ts us) where

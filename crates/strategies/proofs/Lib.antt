@@ -1,8 +1,10 @@
 pub mod Alike
+pub mod AlikePlain
 pub mod Asking
 pub mod FifoSteps
 pub mod Granted
 pub mod Laws
+pub mod NamingAlike
 pub mod NamingLaws
 pub mod NamingParts
 pub mod Places

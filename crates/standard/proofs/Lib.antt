@@ -1,0 +1,2 @@
+pub mod StandardAlike
+pub mod StandardLaws

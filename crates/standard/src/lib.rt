@@ -1,0 +1,2 @@
+//! The strategies that come with the library, as one.
+pub mod standard;
