@@ -1,0 +1,9 @@
+pub mod Closings
+pub mod Faults
+pub mod Landings
+pub mod Left
+pub mod Rooms
+pub mod Scans
+pub mod Starts
+pub mod Swaps
+pub mod Wanted
