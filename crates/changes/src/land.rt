@@ -12,6 +12,8 @@ ghost use Rattle.sheets.specs.Tables.{memb};
 ghost use Rattle.books.specs.Land.{has-room, fresh-ok, bars, landing-run, landed};
 ghost use Rattle.changes.specs.Changes.{Sound-on};
 ghost use Rattle.changes.specs.Land.{admitted, Lands};
+use edits::order::insert;
+use edits::settling::table_of;
 use keys::key_kind::KeyKind;
 use refusals::refusal::Refusal;
 use runs::fresh::Fresh;
@@ -20,8 +22,6 @@ use runs::table::Table;
 use runs::table::TableTableFile;
 use sheets::level::run_count;
 use sheets::level::size;
-use edits::order::insert;
-use edits::settling::table_of;
 use sheets::sound::MOST_BYTES;
 
 /// Puts the fresh table in its place in level 0, and says how many stand then.
