@@ -1,4 +1,6 @@
 //! A worked example: tour 12 is over, and the tables that hold nothing else are dropped from the sheet.
+#![tactic(auto)]
+
 mod tour;
 
 use keys::key_range::KeyRange;

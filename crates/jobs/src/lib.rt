@@ -1,4 +1,6 @@
 //! The job book: which tables are being compacted, by which jobs, and the calls on it.
+#![tactic(auto)]
+
 mod held;
 pub mod job;
 pub mod job_book;

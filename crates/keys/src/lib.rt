@@ -1,4 +1,6 @@
 //! Key kinds, ranges of keys, and bounds.
+#![tactic(auto)]
+
 pub mod bounds;
 pub mod byte_key;
 pub mod key_kind;

@@ -1,4 +1,6 @@
 //! Examples for keys, runs, windows, edits of a sheet and naming, each proved and then run.
+#![tactic(auto)]
+
 #[cfg(test)]
 mod edits_tests;
 #[cfg(test)]

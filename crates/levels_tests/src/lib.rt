@@ -1,4 +1,6 @@
 //! Tests of leveled's settings, target sizes and scores.
+#![tactic(auto)]
+
 ghost use Rattle.std.specs.Prelude.{◌^◌, ◌<◌};
 
 #[cfg(test)]

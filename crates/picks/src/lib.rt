@@ -1,4 +1,6 @@
 //! The leveled strategy's pick: a move of the longest window, else the merge with the fewest bytes.
+#![tactic(auto)]
+
 mod edges;
 mod fronts;
 mod marks;

@@ -1,4 +1,6 @@
 //! The planner: reads a script from standard input and prints one line for each answer.
+#![tactic(auto)]
+
 mod desk;
 
 use anyhow::anyhow;

@@ -1,2 +1,4 @@
 //! The refusals: what every call returns instead of a result.
+#![tactic(auto)]
+
 pub mod refusal;

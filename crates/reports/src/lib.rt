@@ -1,2 +1,4 @@
 //! The planner's answers as text.
+#![tactic(auto)]
+
 pub mod report;

@@ -1,4 +1,6 @@
 //! Tables, runs of tables, and what is asked of a run.
+#![tactic(auto)]
+
 pub mod fresh;
 pub mod ranged;
 pub mod run;

@@ -1,4 +1,6 @@
 //! The sheet: table records in memory that the caller lends, of which the first ones stand.
+#![tactic(auto)]
+
 pub mod hidden_set;
 pub mod level;
 pub mod sound;

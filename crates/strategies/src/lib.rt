@@ -1,4 +1,6 @@
 //! The strategies: which tables are to be moved, merged or dropped.
+#![tactic(auto)]
+
 pub mod choice;
 pub mod declined;
 pub mod drop_range;

@@ -1,4 +1,6 @@
 //! The words of a script: numbers and keys as text, and what may be wrong with a line.
+#![tactic(auto)]
+
 pub mod fault;
 pub mod field;
 mod hex;
