@@ -31,10 +31,10 @@ pub fn close_job<K: KeyKind>(
     sheet: &mut [Table<K>],
     standing: usize,
 ) -> Result<usize, Refusal>
-    requires sound { SoundOn ranks sheet.old standing }
-    requires runs { Runs ranks (take standing sheet.old) (job kind destination numbers.now) }
-    ensures answer { Closes ranks (job kind destination numbers.now) outputs.now sheet.old standing sheet.new result }
-    ensures sheet { sheet.new ≡ (if is_ok result then laid (closed ranks (job kind destination numbers.now) outputs.now (take standing sheet.old)) sheet.old else sheet.old) }
+    requires sound { SoundOn K.ranks sheet.old standing }
+    requires runs { Runs K.ranks (take standing sheet.old) (job kind destination numbers.now) }
+    ensures answer { Closes K.ranks (job kind destination numbers.now) outputs.now sheet.old standing sheet.new result }
+    ensures sheet { sheet.new ≡ (if is_ok result then laid (closed K.ranks (job kind destination numbers.now) outputs.now (take standing sheet.old)) sheet.old else sheet.old) }
 {
     test_close(kind, numbers, outputs, sheet, standing)?;
     let count = swap(kind, destination, numbers, outputs, sheet, standing);
@@ -50,8 +50,8 @@ fn test_close<K: KeyKind>(
     sheet: &[Table<K>],
     standing: usize,
 ) -> Result<(), Refusal>
-    requires { SoundOn ranks sheet.now standing }
-    ensures { (destination : ℕ) → Says ranks (job kind destination numbers.now) outputs.now sheet.now standing result }
+    requires { SoundOn K.ranks sheet.now standing }
+    ensures { (destination : ℕ) → Says K.ranks (job kind destination numbers.now) outputs.now sheet.now standing result }
 {
     let tables = &sheet[0..standing];
     if let Some(place) = first_bad_table(tables, outputs) {
@@ -68,7 +68,7 @@ fn test_close<K: KeyKind>(
 
 /// The place of the first output that may not stand with the tables or has the number of one before it.
 pub fn first_bad_table<K: KeyKind>(tables: &[Table<K>], outputs: &[Fresh<K>]) -> Option<usize>
-    ensures { result ≡ first_fault (bad_table ranks tables.now) [] outputs.now }
+    ensures { result ≡ first_fault (bad_table K.ranks tables.now) [] outputs.now }
 {
     for i in 0..outputs.len() {
         if is_bad_table(tables, &outputs[0..i], &outputs[i]) {
@@ -80,7 +80,7 @@ pub fn first_bad_table<K: KeyKind>(tables: &[Table<K>], outputs: &[Fresh<K>]) ->
 
 // Whether the output may not stand with the tables, or has the number of one of those before it.
 fn is_bad_table<K: KeyKind>(tables: &[Table<K>], before: &[Fresh<K>], output: &Fresh<K>) -> bool
-    ensures { result ≡ bad_table ranks tables.now (reverse before.now) output.now }
+    ensures { result ≡ bad_table K.ranks tables.now (reverse before.now) output.now }
 {
     !is_fresh_ok(tables, output) || has_number(before, output.number)
 }
@@ -92,7 +92,7 @@ pub fn first_bad_output<K: KeyKind>(
     numbers: &[u64],
     outputs: &[Fresh<K>],
 ) -> Option<usize>
-    ensures { result ≡ bad_outputs ranks kind (span_of ranks (λ t. t.range) (filter (named numbers.now) tables.now)) outputs.now }
+    ensures { result ≡ bad_outputs K.ranks kind (span_of K.ranks (λ t. t.range) (filter (named numbers.now) tables.now)) outputs.now }
 {
     if outputs.is_empty() {
         return match kind {
@@ -111,7 +111,7 @@ pub fn first_bad_output<K: KeyKind>(
 
 // The place of the first output that is outside the span, or does not begin after the one before it ends.
 fn first_outside<K: KeyKind>(span: &KeyRange<K>, outputs: &[Fresh<K>]) -> Option<usize>
-    ensures { result ≡ first_fault (bad_output ranks (Some span.now)) [] outputs.now }
+    ensures { result ≡ first_fault (bad_output K.ranks (Some span.now)) [] outputs.now }
 {
     for i in 0..outputs.len() {
         if is_bad_output(span, &outputs[0..i], &outputs[i]) {
@@ -123,14 +123,14 @@ fn first_outside<K: KeyKind>(span: &KeyRange<K>, outputs: &[Fresh<K>]) -> Option
 
 // Whether the output is outside the span, or does not begin after the last of those before it ends.
 fn is_bad_output<K: KeyKind>(span: &KeyRange<K>, before: &[Fresh<K>], output: &Fresh<K>) -> bool
-    ensures { result ≡ bad_output ranks (Some span.now) (reverse before.now) output.now }
+    ensures { result ≡ bad_output K.ranks (Some span.now) (reverse before.now) output.now }
 {
     !span.contains_range(&output.range) || !follows(before, output)
 }
 
 // Whether the output begins after the last of those before it ends.
 fn follows<K: KeyKind>(before: &[Fresh<K>], output: &Fresh<K>) -> bool
-    ensures { result ≡ follows ranks (reverse before.now) output.now }
+    ensures { result ≡ follows K.ranks (reverse before.now) output.now }
 {
     let count = before.len();
     if count == 0 {
@@ -145,7 +145,7 @@ fn follows<K: KeyKind>(before: &[Fresh<K>], output: &Fresh<K>) -> bool
 
 /// The span of those of the tables whose numbers are listed.
 pub fn span_held<K: KeyKind>(tables: &[Table<K>], numbers: &[u64]) -> Option<KeyRange<K>>
-    ensures { result ≡ span_of ranks (λ t. t.range) (filter (named numbers.now) tables.now) }
+    ensures { result ≡ span_of K.ranks (λ t. t.range) (filter (named numbers.now) tables.now) }
 {
     let mut span = None;
     for i in 0..tables.len() {
@@ -159,7 +159,7 @@ pub fn span_held<K: KeyKind>(tables: &[Table<K>], numbers: &[u64]) -> Option<Key
 
 // The span so far and one more range.
 fn grow<K: KeyKind>(span: Option<KeyRange<K>>, range: &KeyRange<K>) -> KeyRange<K>
-    ensures { result ≡ grown ranks span range.now }
+    ensures { result ≡ grown K.ranks span range.now }
 {
     match span {
         None => *range,
@@ -177,7 +177,7 @@ pub fn has_room<K: KeyKind>(
 ) -> bool
     requires within { standing ≤ length sheet.now }
     requires total { size_of (take standing sheet.now) ≤ 2 ^ 53 }
-    ensures { (destination : ℕ) → result ≡ has_room (length sheet.now) (closed ranks (job kind destination numbers.now) outputs.now (take standing sheet.now)) }
+    ensures { (destination : ℕ) → result ≡ has_room (length sheet.now) (closed K.ranks (job kind destination numbers.now) outputs.now (take standing sheet.now)) }
 {
     match kind {
         Kind::Merge => merge_fits(numbers, outputs, sheet, standing),
@@ -249,9 +249,9 @@ fn swap<K: KeyKind>(
     standing: usize,
 ) -> usize
     requires within { standing ≤ length sheet.old }
-    requires room { length (swapped ranks (job kind destination numbers.now) outputs.now (take standing sheet.old)) ≤ length sheet.old }
-    ensures count { result ≡ length (swapped ranks (job kind destination numbers.now) outputs.now (take standing sheet.old)) }
-    ensures sheet { sheet.new ≡ laid (swapped ranks (job kind destination numbers.now) outputs.now (take standing sheet.old)) sheet.old }
+    requires room { length (swapped K.ranks (job kind destination numbers.now) outputs.now (take standing sheet.old)) ≤ length sheet.old }
+    ensures count { result ≡ length (swapped K.ranks (job kind destination numbers.now) outputs.now (take standing sheet.old)) }
+    ensures sheet { sheet.new ≡ laid (swapped K.ranks (job kind destination numbers.now) outputs.now (take standing sheet.old)) sheet.old }
 {
     match kind {
         Kind::Move => {

@@ -25,9 +25,9 @@ pub fn land_table<K: KeyKind>(
     standing: usize,
     fresh: &Fresh<K>,
 ) -> Result<usize, Refusal>
-    requires { SoundOn ranks sheet.old standing }
-    ensures answer { Lands ranks fresh.now sheet.old standing sheet.new result }
-    ensures sheet { sheet.new ≡ (if is_ok result then laid (landed ranks fresh.now (take standing sheet.old)) sheet.old else sheet.old) }
+    requires { SoundOn K.ranks sheet.old standing }
+    ensures answer { Lands K.ranks fresh.now sheet.old standing sheet.new result }
+    ensures sheet { sheet.new ≡ (if is_ok result then laid (landed K.ranks fresh.now (take standing sheet.old)) sheet.old else sheet.old) }
 {
     let run = admit(sheet, standing, fresh)?;
     insert(sheet, standing, table_of(fresh, 0, run));
@@ -36,8 +36,8 @@ pub fn land_table<K: KeyKind>(
 
 // The run that takes the fresh table, unless it may not come in.
 fn admit<K: KeyKind>(sheet: &[Table<K>], standing: usize, fresh: &Fresh<K>) -> Result<u16, Refusal>
-    requires { SoundOn ranks sheet.now standing }
-    ensures { result ≡ admitted ranks fresh.now (length sheet.now) (take standing sheet.now) }
+    requires { SoundOn K.ranks sheet.now standing }
+    ensures { result ≡ admitted K.ranks fresh.now (length sheet.now) (take standing sheet.now) }
 {
     let tables = &sheet[0..standing];
     if !is_fresh_ok(tables, fresh) {
@@ -51,7 +51,7 @@ fn admit<K: KeyKind>(sheet: &[Table<K>], standing: usize, fresh: &Fresh<K>) -> R
 
 /// Whether the fresh table may stand with the tables: no max before its min, no size or linked sum too large, no number that stands.
 pub fn is_fresh_ok<K: KeyKind>(tables: &[Table<K>], fresh: &Fresh<K>) -> bool
-    ensures { result ≡ fresh_ok ranks tables.now fresh.now }
+    ensures { result ≡ fresh_ok K.ranks tables.now fresh.now }
 {
     if fresh.range.max.compare(&fresh.range.min).is_lt() {
         return false;
@@ -61,7 +61,7 @@ pub fn is_fresh_ok<K: KeyKind>(tables: &[Table<K>], fresh: &Fresh<K>) -> bool
 
 /// Whether one of the tables has the number.
 pub fn has_number<T: TableFile>(tables: &[T], number: u64) -> bool
-    ensures { result ≡ memb number (map named tables.now) }
+    ensures { result ≡ memb number (map T.named tables.now) }
 {
     for t in tables {
         if t.id() == number {
@@ -75,7 +75,7 @@ pub fn has_number<T: TableFile>(tables: &[T], number: u64) -> bool
 pub fn has_room_to_land<K: KeyKind>(sheet: &[Table<K>], standing: usize, fresh: &Fresh<K>) -> bool
     requires within { standing ≤ length sheet.now }
     requires total { size_of (take standing sheet.now) ≤ 2 ^ 53 }
-    ensures { result ≡ has_room (length sheet.now) (landed ranks fresh.now (take standing sheet.now)) }
+    ensures { result ≡ has_room (length sheet.now) (landed K.ranks fresh.now (take standing sheet.now)) }
 {
     standing < sheet.len() && fresh.size <= MOST_BYTES - size(&sheet[0..standing])
 }
@@ -84,7 +84,7 @@ pub fn has_room_to_land<K: KeyKind>(sheet: &[Table<K>], standing: usize, fresh: 
 pub fn landing_run<K: KeyKind>(tables: &[Table<K>], fresh: &Fresh<K>) -> u16
     requires order { Stacked tables.now }
     requires few { runs tables.now < 65536 }
-    ensures { result ≡ landing_run ranks fresh.now tables.now }
+    ensures { result ≡ landing_run K.ranks fresh.now tables.now }
 {
     let runs = run_count(tables);
     let run = if is_barred(tables, fresh, runs) {
@@ -97,7 +97,7 @@ pub fn landing_run<K: KeyKind>(tables: &[Table<K>], fresh: &Fresh<K>) -> u16
 
 // Whether a table of the last of so many runs of level 0 meets the fresh one.
 fn is_barred<K: KeyKind>(tables: &[Table<K>], fresh: &Fresh<K>, runs: usize) -> bool
-    ensures { result ≡ some (bars ranks fresh.now runs) tables.now }
+    ensures { result ≡ some (bars K.ranks fresh.now runs) tables.now }
 {
     for t in tables {
         if is_bar(t, fresh, runs) {
@@ -109,7 +109,7 @@ fn is_barred<K: KeyKind>(tables: &[Table<K>], fresh: &Fresh<K>, runs: usize) -> 
 
 // Whether the table is of the last of so many runs of level 0, and meets the fresh one.
 fn is_bar<K: KeyKind>(table: &Table<K>, fresh: &Fresh<K>, runs: usize) -> bool
-    ensures { result ≡ bars ranks fresh.now runs table.now }
+    ensures { result ≡ bars K.ranks fresh.now runs table.now }
 {
     table.level == 0
         && table.run as usize + 1 == runs

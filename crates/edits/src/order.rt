@@ -9,7 +9,7 @@ use runs::table::Table;
 
 /// Whether the first table comes before the second in the order of the sheet.
 pub fn is_sooner<K: KeyKind>(t: &Table<K>, u: &Table<K>) -> bool
-    ensures { result ≡ sooner ranks t.now u.now }
+    ensures { result ≡ sooner K.ranks t.now u.now }
 {
     if t.level != u.level {
         return t.level < u.level;
@@ -23,7 +23,7 @@ pub fn is_sooner<K: KeyKind>(t: &Table<K>, u: &Table<K>) -> bool
 /// How many stand before the table's place: before the first that the table is to come before.
 pub fn place_of<K: KeyKind>(sheet: &[Table<K>], count: usize, table: &Table<K>) -> usize
     requires { count ≤ length sheet.now }
-    ensures { result ≡ place ranks table.now (take count sheet.now) }
+    ensures { result ≡ place K.ranks table.now (take count sheet.now) }
 {
     for i in 0..count {
         if is_sooner(table, &sheet[i]) {
@@ -36,7 +36,7 @@ pub fn place_of<K: KeyKind>(sheet: &[Table<K>], count: usize, table: &Table<K>) 
 /// Puts the table in its place.
 pub fn insert<K: KeyKind>(sheet: &mut [Table<K>], count: usize, table: Table<K>)
     requires { count < length sheet.old }
-    ensures { sheet.new ≡ laid (insert ranks table (take count sheet.old)) sheet.old }
+    ensures { sheet.new ≡ laid (insert K.ranks table (take count sheet.old)) sheet.old }
 {
     let at = place_of(sheet, count, &table);
     insert_at(sheet, count, at, table);

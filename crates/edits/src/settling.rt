@@ -30,7 +30,7 @@ pub fn part<K: Copy>(sheet: &mut [Table<K>], count: usize, numbers: &[u64]) -> u
 pub fn take_in<K: KeyKind>(sheet: &mut [Table<K>], left: usize, count: usize, level: u8)
     requires within { left ≤ count }
     requires fits { count ≤ length sheet.old }
-    ensures { sheet.new ≡ laid (inserts ranks (take left sheet.old) (map (placed level 0) (drop left (take count sheet.old)))) sheet.old }
+    ensures { sheet.new ≡ laid (inserts K.ranks (take left sheet.old) (map (placed level 0) (drop left (take count sheet.old)))) sheet.old }
 {
     for i in left..count {
         let t = sheet[i];
@@ -47,7 +47,7 @@ pub fn settle<K: KeyKind>(
 ) -> usize
     requires { count + length outputs.now ≤ length sheet.old }
     ensures count { result ≡ count + length outputs.now }
-    ensures sheet { sheet.new ≡ laid (inserts ranks (take count sheet.old) (map (settled level 0) outputs.now)) sheet.old }
+    ensures sheet { sheet.new ≡ laid (inserts K.ranks (take count sheet.old) (map (settled level 0) outputs.now)) sheet.old }
 {
     for i in 0..outputs.len() {
         insert(sheet, count + i, table_of(&outputs[i], level, 0));

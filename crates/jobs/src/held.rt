@@ -16,7 +16,7 @@ use sheets::sound::MOST_TABLES;
 
 // The span of the tables of these numbers.
 pub(crate) fn span_held<K: KeyKind>(tables: &[Table<K>], numbers: &[u64]) -> Option<KeyRange<K>>
-    ensures { result ≡ span_of ranks (λ t. t.range) (filter (named numbers.now) tables.now) }
+    ensures { result ≡ span_of K.ranks (λ t. t.range) (filter (named numbers.now) tables.now) }
 {
     let mut span = None;
     for t in tables {
@@ -29,7 +29,7 @@ pub(crate) fn span_held<K: KeyKind>(tables: &[Table<K>], numbers: &[u64]) -> Opt
 
 // The span of a span, if any, and a range.
 fn widened<K: KeyKind>(span: Option<KeyRange<K>>, range: &KeyRange<K>) -> Option<KeyRange<K>>
-    ensures { result ≡ grown ranks span range.now }
+    ensures { result ≡ grown K.ranks span range.now }
 {
     match span {
         Some(all) => Some(all.widen(range)),
@@ -39,7 +39,7 @@ fn widened<K: KeyKind>(span: Option<KeyRange<K>>, range: &KeyRange<K>) -> Option
 
 // Whether two spans meet.
 pub(crate) fn spans_meet<K: KeyKind>(a: Option<KeyRange<K>>, b: Option<KeyRange<K>>) -> bool
-    ensures { result ≡ spans_meet ranks a b }
+    ensures { result ≡ spans_meet K.ranks a b }
 {
     let Some(a) = a else {
         return false;
@@ -57,7 +57,7 @@ pub(crate) fn are_clear<K: KeyKind>(
     numbers: &[u64],
     span: Option<KeyRange<K>>,
 ) -> bool
-    ensures { result ≡ all_by (clear_by ranks level numbers.now span) tables.now }
+    ensures { result ≡ all_by (clear_by K.ranks level numbers.now span) tables.now }
 {
     for t in tables {
         if !is_clear(t, level, numbers, span) {
@@ -69,14 +69,14 @@ pub(crate) fn are_clear<K: KeyKind>(
 
 // Whether a table is outside the level, clear of the span, or one of these numbers, which is looked up last.
 fn is_clear<K: KeyKind>(t: &Table<K>, level: u8, numbers: &[u64], span: Option<KeyRange<K>>) -> bool
-    ensures { result ≡ clear_by ranks level numbers.now span t.now }
+    ensures { result ≡ clear_by K.ranks level numbers.now span t.now }
 {
     t.level != level || !meets_it(span, t) || is_among(t.number, numbers)
 }
 
 // Whether a table meets a span, if there is one.
 fn meets_it<K: KeyKind>(span: Option<KeyRange<K>>, t: &Table<K>) -> bool
-    ensures { result ≡ meets_span ranks (λ u. u.range) span t.now }
+    ensures { result ≡ meets_span K.ranks (λ u. u.range) span t.now }
 {
     match span {
         Some(span) => t.range.overlaps_with_key_range(&span),
@@ -87,7 +87,7 @@ fn meets_it<K: KeyKind>(span: Option<KeyRange<K>>, t: &Table<K>) -> bool
 // Whether no two of the tables of these numbers meet: each table is looked up once.
 pub(crate) fn are_apart<K: KeyKind>(tables: &[Table<K>], numbers: &[u64]) -> bool
     requires { length tables.now ≤ 1024 }
-    ensures { result ≡ unmet ranks (filter (named numbers.now) tables.now) }
+    ensures { result ≡ unmet K.ranks (filter (named numbers.now) tables.now) }
 {
     let marks = marks_of(tables, numbers);
     marked_are_apart(tables, &marks)
@@ -108,7 +108,7 @@ fn marks_of<K>(tables: &[Table<K>], numbers: &[u64]) -> [bool; MOST_TABLES]
 // Whether no two of the marked tables meet.
 fn marked_are_apart<K: KeyKind>(tables: &[Table<K>], marks: &[bool]) -> bool
     requires { length tables.now ≤ length marks.now }
-    ensures { result ≡ unmet ranks (marked marks.now tables.now) }
+    ensures { result ≡ unmet K.ranks (marked marks.now tables.now) }
 {
     for i in 0..tables.len() {
         if marks[i] && !is_apart(&tables[i], tables, marks, i + 1) {
@@ -122,7 +122,7 @@ fn marked_are_apart<K: KeyKind>(tables: &[Table<K>], marks: &[bool]) -> bool
 fn is_apart<K: KeyKind>(t: &Table<K>, tables: &[Table<K>], marks: &[bool], from: usize) -> bool
     requires within { from ≤ length tables.now }
     requires fits { length tables.now ≤ length marks.now }
-    ensures { result ≡ all_by (λ u. not (meets ranks t.now.range u.range)) (marked (drop from marks.now) (drop from tables.now)) }
+    ensures { result ≡ all_by (λ u. not (meets K.ranks t.now.range u.range)) (marked (drop from marks.now) (drop from tables.now)) }
 {
     for i in from..tables.len() {
         if marks[i] && t.range.overlaps_with_key_range(&tables[i].range) {

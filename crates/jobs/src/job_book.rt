@@ -28,7 +28,7 @@ impl JobBook {
         count: usize,
         blob_total: u64,
     ) -> Result<JobBook, Refusal>
-        ensures { opened sheet.now result ≡ open_book ranks sheet.now count blob_total }
+        ensures { opened sheet.now result ≡ open_book K.ranks sheet.now count blob_total }
     {
         if !is_sound(sheet, count, blob_total) {
             return Err(Refusal::NotSound);
@@ -43,7 +43,7 @@ impl JobBook {
 
     /// Whether book and sheet are sound.
     pub fn is_sound<K: KeyKind>(&self, sheet: &[Table<K>]) -> bool
-        ensures { result ≡ state_ok ranks (state self.now sheet.now) }
+        ensures { result ≡ state_ok K.ranks (state self.now sheet.now) }
     {
         is_sound(sheet, self.standing, self.blob_total)
             && are_sound(&sheet[0..self.standing], &self.hidden, &self.jobs)

@@ -36,7 +36,7 @@ pub(crate) fn are_sound<K: KeyKind>(
 ) -> bool
     requires few { length tables.now ≤ 1024 }
     requires eight { length jobs.now ≡ 8 }
-    ensures { result ≡ book_ok ranks tables.now (hidden hidden_set.now) (running (map slot jobs.now)) }
+    ensures { result ≡ book_ok K.ranks tables.now (hidden hidden_set.now) (running (map slot jobs.now)) }
 {
     are_owned(tables, hidden_set.as_slice(), jobs) && are_lawful(tables, hidden_set, jobs)
 }
@@ -51,7 +51,7 @@ fn are_owned<K>(tables: &[Table<K>], numbers: &[u64], jobs: &[Job]) -> bool
 // Whether each job is kept, and each two of them are apart.
 fn are_lawful<K: KeyKind>(tables: &[Table<K>], hidden_set: &HiddenSet, jobs: &[Job]) -> bool
     requires { length tables.now ≤ 1024 }
-    ensures { result ≡ (all_by (job_ok ranks tables.now (hidden hidden_set.now)) (running (map slot jobs.now)) && pairs_by (jobs_apart ranks tables.now) (running (map slot jobs.now))) }
+    ensures { result ≡ (all_by (job_ok K.ranks tables.now (hidden hidden_set.now)) (running (map slot jobs.now)) && pairs_by (jobs_apart K.ranks tables.now) (running (map slot jobs.now))) }
 {
     are_kept(tables, hidden_set, jobs) && all_apart(tables, jobs)
 }
@@ -130,7 +130,7 @@ fn share_one(numbers: &[u64], others: &[u64]) -> bool
 
 // Whether the level is one from 1 to 6 in which only the tables of these numbers meet their span.
 fn has_free_way<K: KeyKind>(tables: &[Table<K>], level: u8, numbers: &[u64]) -> bool
-    ensures { result ≡ (nat_le 1 level && (nat_le level 6 && all_by (clear_by ranks level numbers.now (span_of ranks (λ t. t.range) (filter (named numbers.now) tables.now))) tables.now)) }
+    ensures { result ≡ (nat_le 1 level && (nat_le level 6 && all_by (clear_by K.ranks level numbers.now (span_of K.ranks (λ t. t.range) (filter (named numbers.now) tables.now))) tables.now)) }
 {
     level >= 1
         && level <= LAST_LEVEL
@@ -140,7 +140,7 @@ fn has_free_way<K: KeyKind>(tables: &[Table<K>], level: u8, numbers: &[u64]) -> 
 // Whether what a slot runs over the tables of these numbers keeps what its kind asks.
 fn keeps_its_kind<K: KeyKind>(tables: &[Table<K>], state: State, numbers: &[u64]) -> bool
     requires { length tables.now ≤ 1024 }
-    ensures { result ≡ free_or (λ j. kind_ok ranks tables.now j j.kind) (slot_as state numbers.now) }
+    ensures { result ≡ free_or (λ j. kind_ok K.ranks tables.now j j.kind) (slot_as state numbers.now) }
 {
     match state {
         State::Move(level) => has_free_way(tables, level, numbers) && are_apart(tables, numbers),
@@ -152,7 +152,7 @@ fn keeps_its_kind<K: KeyKind>(tables: &[Table<K>], state: State, numbers: &[u64]
 // Whether the job of a slot, if any, has a table, all its tables are hidden, and it keeps what its kind asks.
 fn is_kept<K: KeyKind>(tables: &[Table<K>], hidden_set: &HiddenSet, job: &Job) -> bool
     requires { length tables.now ≤ 1024 }
-    ensures { result ≡ free_or (job_ok ranks tables.now (hidden hidden_set.now)) (slot job.now) }
+    ensures { result ≡ free_or (job_ok K.ranks tables.now (hidden hidden_set.now)) (slot job.now) }
 {
     if job.is_free() {
         return true;
@@ -166,7 +166,7 @@ fn is_kept<K: KeyKind>(tables: &[Table<K>], hidden_set: &HiddenSet, job: &Job) -
 // Whether each job is kept.
 fn are_kept<K: KeyKind>(tables: &[Table<K>], hidden_set: &HiddenSet, jobs: &[Job]) -> bool
     requires { length tables.now ≤ 1024 }
-    ensures { result ≡ all_by (job_ok ranks tables.now (hidden hidden_set.now)) (running (map slot jobs.now)) }
+    ensures { result ≡ all_by (job_ok K.ranks tables.now (hidden hidden_set.now)) (running (map slot jobs.now)) }
 {
     for job in jobs {
         if !is_kept(tables, hidden_set, job) {
@@ -196,7 +196,7 @@ fn crosses<K: KeyKind>(
     span: Option<KeyRange<K>>,
     job: &Job,
 ) -> bool
-    ensures { result ≡ (same_level level (level_in (slot job.now)) && spans_meet ranks span (span_in ranks tables.now (slot job.now))) }
+    ensures { result ≡ (same_level level (level_in (slot job.now)) && spans_meet K.ranks span (span_in K.ranks tables.now (slot job.now))) }
 {
     is_same_level(level, job.dest_level()) && spans_meet(span, span_held(tables, job.numbers()))
 }
@@ -208,8 +208,8 @@ fn are_two_apart<K: KeyKind>(
     span: Option<KeyRange<K>>,
     other: &Job,
 ) -> bool
-    requires { span ≡ span_in ranks tables.now (slot job.now) }
-    ensures { result ≡ free_or_so (jobs_apart ranks tables.now) (slot job.now) (slot other.now) }
+    requires { span ≡ span_in K.ranks tables.now (slot job.now) }
+    ensures { result ≡ free_or_so (jobs_apart K.ranks tables.now) (slot job.now) (slot other.now) }
 {
     if share_one(job.numbers(), other.numbers()) {
         return false;
@@ -219,7 +219,7 @@ fn are_two_apart<K: KeyKind>(
 
 // Whether a job is apart from each of the others.
 fn is_apart<K: KeyKind>(tables: &[Table<K>], job: &Job, others: &[Job]) -> bool
-    ensures { result ≡ all_by (λ other. free_or_so (jobs_apart ranks tables.now) (slot job.now) (slot other)) others.now }
+    ensures { result ≡ all_by (λ other. free_or_so (jobs_apart K.ranks tables.now) (slot job.now) (slot other)) others.now }
 {
     let span = span_held(tables, job.numbers());
     for other in others {
@@ -232,7 +232,7 @@ fn is_apart<K: KeyKind>(tables: &[Table<K>], job: &Job, others: &[Job]) -> bool
 
 // Whether each two of the jobs are apart.
 fn all_apart<K: KeyKind>(tables: &[Table<K>], jobs: &[Job]) -> bool
-    ensures { result ≡ pairs_by (jobs_apart ranks tables.now) (running (map slot jobs.now)) }
+    ensures { result ≡ pairs_by (jobs_apart K.ranks tables.now) (running (map slot jobs.now)) }
 {
     for i in 0..jobs.len() {
         if !is_apart(tables, &jobs[i], &jobs[i + 1..]) {

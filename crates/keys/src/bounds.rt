@@ -23,7 +23,7 @@ pub struct OwnedBounds<K> {
 impl<K: KeyKind> Bound<K> {
     // Whether the key is not before this bound.
     fn is_start_of(&self, key: &K) -> bool
-        ensures { result ≡ starts_by ranks self.now key.now }
+        ensures { result ≡ starts_by K.ranks self.now key.now }
     {
         match self {
             Bound::Unbounded => true,
@@ -34,7 +34,7 @@ impl<K: KeyKind> Bound<K> {
 
     // Whether the key is not behind this bound.
     fn is_end_of(&self, key: &K) -> bool
-        ensures { result ≡ ends_by ranks self.now key.now }
+        ensures { result ≡ ends_by K.ranks self.now key.now }
     {
         match self {
             Bound::Unbounded => true,
@@ -47,7 +47,7 @@ impl<K: KeyKind> Bound<K> {
 impl<K: KeyKind> OwnedBounds<K> {
     /// Whether the range lies wholly between the bounds.
     pub fn contains(&self, range: &KeyRange<K>) -> bool
-        ensures { result ≡ within ranks self.now range.now }
+        ensures { result ≡ within K.ranks self.now range.now }
     {
         self.start.is_start_of(&range.min) && self.end.is_end_of(&range.max)
     }

@@ -11,7 +11,7 @@ use keys::key_kind::KeyKind;
 impl<'a, K: KeyKind> Survey<'a, K> {
     /// The first non-empty level from 1, else 6; one less where each level that has a table is overfull.
     pub fn first_level(&self) -> u8
-        requires { Surveyed ranks self.now }
+        requires { Surveyed K.ranks self.now }
         ensures value { result ≡ first_level (set_to self.now) (standing self.now) (hides self.now) }
         ensures within { (1 ≤ result) × (result ≤ 6) }
     {
@@ -25,7 +25,7 @@ impl<'a, K: KeyKind> Survey<'a, K> {
 
     /// The first level from 1 on that has a table, else 6.
     pub fn first_non_empty_level(&self) -> u8
-        requires { Surveyed ranks self.now }
+        requires { Surveyed K.ranks self.now }
         ensures value { result ≡ first_filled (standing self.now) deeper }
         ensures within { (1 ≤ result) × (result ≤ 6) }
     {
@@ -39,7 +39,7 @@ impl<'a, K: KeyKind> Survey<'a, K> {
 
     // Whether the first level is to fall by 1: it can, it has a table, and each level that has is overfull.
     fn needs_new_first_level(&self, first: u8) -> bool
-        requires surveyed { Surveyed ranks self.now }
+        requires surveyed { Surveyed K.ranks self.now }
         requires first { first ≡ first_filled (standing self.now) deeper }
         requires within { (1 ≤ first) × (first ≤ 6) }
         ensures { result ≡ falls (set_to self.now) (standing self.now) (hides self.now) first }
@@ -53,7 +53,7 @@ impl<'a, K: KeyKind> Survey<'a, K> {
 
     // Whether each level that has a table has more free bytes than its target size.
     fn are_overfull(&self, first: u8) -> bool
-        requires surveyed { Surveyed ranks self.now }
+        requires surveyed { Surveyed K.ranks self.now }
         requires first { first ≡ first_filled (standing self.now) deeper }
         requires within { (1 ≤ first) × (first ≤ 6) }
         ensures { result ≡ all_by (overfull (set_to self.now) (standing self.now) (hides self.now) first) deeper }

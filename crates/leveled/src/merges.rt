@@ -15,10 +15,10 @@ use windows::slice_windows::Window;
 impl<'a, K: KeyKind> Survey<'a, K> {
     /// Level 0 won: it goes to the first level with what it meets there; nothing if either has a hidden table.
     pub fn merge_first(&self, first: u8, ids: &mut [u64]) -> Choice
-        requires surveyed { Surveyed ranks self.now }
+        requires surveyed { Surveyed K.ranks self.now }
         requires within { (1 ≤ first) × (first ≤ 6) }
         requires room { length (standing self.now) ≤ length ids.old }
-        ensures { Gives (zero_won ranks (set_to self.now) (standing self.now) (hides self.now) first) result ids.old ids.new }
+        ensures { Gives (zero_won K.ranks (set_to self.now) (standing self.now) (hides self.now) first) result ids.old ids.new }
     {
         if self.is_busy(first) {
             return Choice::DoNothing;
@@ -34,10 +34,10 @@ impl<'a, K: KeyKind> Survey<'a, K> {
 
     /// Level `n` won: what is picked goes to the next level.
     pub fn compact(&self, first: u8, n: u8, ids: &mut [u64]) -> Choice
-        requires surveyed { Surveyed ranks self.now }
+        requires surveyed { Surveyed K.ranks self.now }
         requires within { (1 ≤ first) × (first ≤ n) × (n ≤ 5) }
         requires room { length (standing self.now) ≤ length ids.old }
-        ensures { Gives (picked ranks (set_to self.now) (standing self.now) (hides self.now) first n (pick_for ranks (set_to self.now) (standing self.now) (hides self.now) n)) result ids.old ids.new }
+        ensures { Gives (picked K.ranks (set_to self.now) (standing self.now) (hides self.now) first n (pick_for K.ranks (set_to self.now) (standing self.now) (hides self.now) n)) result ids.old ids.new }
     {
         let curr = self.tables_of(n);
         let next = self.tables_of(n + 1);

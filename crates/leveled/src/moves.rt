@@ -15,8 +15,8 @@ impl<'a, K: KeyKind> Survey<'a, K> {
     /// Whether level 0 can move to level 6: it is one run, levels 1 to 5 are empty, and level 6's span does not meet level 0's.
     /// Hidden tables are not looked at.
     pub fn sinks(&self) -> bool
-        requires { Surveyed ranks self.now }
-        ensures { result ≡ sinks ranks (set_to self.now) (standing self.now) (hides self.now) }
+        requires { Surveyed K.ranks self.now }
+        ensures { result ≡ sinks K.ranks (set_to self.now) (standing self.now) (hides self.now) }
     {
         let first = self.first_non_empty_level();
         if self.run_count != 1 || first != 6 {
@@ -27,9 +27,9 @@ impl<'a, K: KeyKind> Survey<'a, K> {
 
     /// Whether level 0 can move to the first level: it is one run, neither has a hidden table, and the first level has a table and meets level 0's span nowhere.
     pub fn slides(&self, first: u8) -> bool
-        requires surveyed { Surveyed ranks self.now }
+        requires surveyed { Surveyed K.ranks self.now }
         requires within { (1 ≤ first) × (first ≤ 6) }
-        ensures { result ≡ slides ranks (set_to self.now) (standing self.now) (hides self.now) first }
+        ensures { result ≡ slides K.ranks (set_to self.now) (standing self.now) (hides self.now) first }
     {
         let level = self.level(first);
         let is_busy = self.is_busy(first);
@@ -41,7 +41,7 @@ impl<'a, K: KeyKind> Survey<'a, K> {
 
     /// Whether level 0 or the first level has a hidden table.
     pub fn is_busy(&self, first: u8) -> bool
-        requires surveyed { Surveyed ranks self.now }
+        requires surveyed { Surveyed K.ranks self.now }
         requires within { (1 ≤ first) × (first ≤ 6) }
         ensures { result ≡ (touched (hides self.now) (standing self.now) 0 || touched (hides self.now) (standing self.now) first) }
     {
@@ -50,7 +50,7 @@ impl<'a, K: KeyKind> Survey<'a, K> {
 
     /// Moves level 0 to a level.
     pub fn move_first(&self, dest_level: u8, ids: &mut [u64]) -> Choice
-        requires surveyed { Surveyed ranks self.now }
+        requires surveyed { Surveyed K.ranks self.now }
         requires room { length (standing self.now) ≤ length ids.old }
         ensures { Gives (naming Move dest_level 1 (set_to self.now).target_size (in_level 0) (standing self.now)) result ids.old ids.new }
     {

@@ -15,8 +15,8 @@ use runs::table::Table;
 impl<'a, K: KeyKind> Survey<'a, K> {
     /// Whether the spans of level 0 and level 6 meet. An empty level has none.
     pub fn last_level_overlaps(&self) -> bool
-        requires { Surveyed ranks self.now }
-        ensures { result ≡ spans_meet ranks (span_of ranks (λ t. t.range) (level_of 0 (standing self.now))) (span_of ranks (λ t. t.range) (level_of 6 (standing self.now))) }
+        requires { Surveyed K.ranks self.now }
+        ensures { result ≡ spans_meet K.ranks (span_of K.ranks (λ t. t.range) (level_of 0 (standing self.now))) (span_of K.ranks (λ t. t.range) (level_of 6 (standing self.now))) }
     {
         let Some(first) = aggregate(self.tables_of(0)) else {
             return false;
@@ -29,9 +29,9 @@ impl<'a, K: KeyKind> Survey<'a, K> {
 
     /// The tables of a level from 1 on that meet level 0's span: a stretch of the level.
     pub fn get_overlapping(&self, n: u8) -> &'a [Table<K>]
-        requires surveyed { Surveyed ranks self.now }
+        requires surveyed { Surveyed K.ranks self.now }
         requires deeper { 1 ≤ n }
-        ensures { result.now ≡ filter (met ranks (set_to self.now) (standing self.now) (hides self.now) n) (standing self.now) }
+        ensures { result.now ≡ filter (met K.ranks (set_to self.now) (standing self.now) (hides self.now) n) (standing self.now) }
     {
         let run = self.tables_of(n);
         let Some(span) = aggregate(self.tables_of(0)) else {

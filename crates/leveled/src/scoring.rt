@@ -10,7 +10,7 @@ use levels::scores::{first_level_score, level_score};
 impl<'a, K: KeyKind> Survey<'a, K> {
     /// The scores of the seven levels.
     pub fn scores(&self, first: u8) -> [f64; 7]
-        requires surveyed { Surveyed ranks self.now }
+        requires surveyed { Surveyed K.ranks self.now }
         requires first { 1 ≤ first }
         ensures { result ≡ scores (set_to self.now) (standing self.now) (hides self.now) first }
     {
@@ -23,7 +23,7 @@ impl<'a, K: KeyKind> Survey<'a, K> {
 
     // The score of a level: level 0 scores by its table count, a level from the first to 5 by its free bytes, others not at all.
     fn score(&self, first: u8, n: u8) -> f64
-        requires surveyed { Surveyed ranks self.now }
+        requires surveyed { Surveyed K.ranks self.now }
         requires first { 1 ≤ first }
         requires within { n < 7 }
         ensures { result ≡ score_of (set_to self.now) (standing self.now) (hides self.now) first n }

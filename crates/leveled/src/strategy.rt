@@ -27,7 +27,7 @@ pub struct Leveled;
 impl<K: KeyKind> CompactionStrategy<K> for Leveled {
     type Settings = Settings;
 
-    ghost chooses = { λ s ts hs blobs clock. leveled K.KeyKind.ranks s ts hs };
+    ghost chooses = { λ s ts hs blobs clock. leveled K.ranks s ts hs };
 
     ghost keeps = { λ s blobs clock. leveled_lawful K.KeyKind.total s };
 
@@ -54,10 +54,10 @@ fn choose_checked<'a, K: KeyKind>(
     ids: &mut [u64],
 ) -> Choice
     requires limits { in_limits settings.now ≡ true }
-    requires sound { tables_ok ranks tables.now ≡ true }
+    requires sound { tables_ok K.ranks tables.now ≡ true }
     requires few { length tables.now ≤ 1024 }
     requires room { length tables.now ≤ length ids.old }
-    ensures { Gives (leveled ranks settings.now tables.now (hidden hidden_set.now)) result ids.old ids.new }
+    ensures { Gives (leveled K.ranks settings.now tables.now (hidden hidden_set.now)) result ids.old ids.new }
 {
     let survey = Survey::new(settings, tables, hidden_set);
     survey.choose(ids)
@@ -66,9 +66,9 @@ fn choose_checked<'a, K: KeyKind>(
 impl<'a, K: KeyKind> Survey<'a, K> {
     // Level 0 moves to the last level or to the first one if it can; else the level that is fullest is merged into the next.
     fn choose(&self, ids: &mut [u64]) -> Choice
-        requires surveyed { Surveyed ranks self.now }
+        requires surveyed { Surveyed K.ranks self.now }
         requires room { length (standing self.now) ≤ length ids.old }
-        ensures { Gives (leveled ranks (set_to self.now) (standing self.now) (hides self.now)) result ids.old ids.new }
+        ensures { Gives (leveled K.ranks (set_to self.now) (standing self.now) (hides self.now)) result ids.old ids.new }
     {
         if self.sinks() {
             return self.move_first(LAST_LEVEL, ids);
@@ -82,10 +82,10 @@ impl<'a, K: KeyKind> Survey<'a, K> {
 
     // By the level with the highest score.
     fn merge_fullest(&self, first: u8, ids: &mut [u64]) -> Choice
-        requires surveyed { Surveyed ranks self.now }
+        requires surveyed { Surveyed K.ranks self.now }
         requires within { (1 ≤ first) × (first ≤ 6) }
         requires room { length (standing self.now) ≤ length ids.old }
-        ensures { Gives (won ranks (set_to self.now) (standing self.now) (hides self.now) first (chosen (scores (set_to self.now) (standing self.now) (hides self.now) first))) result ids.old ids.new }
+        ensures { Gives (won K.ranks (set_to self.now) (standing self.now) (hides self.now) first (chosen (scores (set_to self.now) (standing self.now) (hides self.now) first))) result ids.old ids.new }
     {
         let scores = self.scores(first);
         match chosen_level(&scores) {

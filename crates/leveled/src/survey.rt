@@ -44,9 +44,9 @@ impl<'a, K: KeyKind> Survey<'a, K> {
         hidden_set: &'a HiddenSet,
     ) -> Survey<'a, K>
         requires limits { in_limits settings.now ≡ true }
-        requires sound { tables_ok ranks tables.now ≡ true }
+        requires sound { tables_ok K.ranks tables.now ≡ true }
         requires few { length tables.now ≤ 1024 }
-        ensures surveyed { Surveyed ranks result }
+        ensures surveyed { Surveyed K.ranks result }
         ensures settings { set_to result ≡ settings.now }
         ensures tables { standing result ≡ tables.now }
         ensures hidden { hides result ≡ hidden hidden_set.now }
@@ -62,7 +62,7 @@ impl<'a, K: KeyKind> Survey<'a, K> {
 
     /// What level `n` holds.
     pub fn level(&self, n: u8) -> Holding
-        requires surveyed { Surveyed ranks self.now }
+        requires surveyed { Surveyed K.ranks self.now }
         requires within { n < 7 }
         ensures { result ≡ held (hides self.now) (standing self.now) n }
     {
@@ -71,9 +71,9 @@ impl<'a, K: KeyKind> Survey<'a, K> {
 
     /// The tables of level `n`; from level 1 on they are a run.
     pub fn tables_of(&self, n: u8) -> &'a [Table<K>]
-        requires { Surveyed ranks self.now }
+        requires { Surveyed K.ranks self.now }
         ensures tables { result.now ≡ level_of n (standing self.now) }
-        ensures run { 1 ≤ n → sorted ranks (λ t. t.range) result.now ≡ true }
+        ensures run { 1 ≤ n → sorted K.ranks (λ t. t.range) result.now ≡ true }
         ensures small { size_of result.now ≤ 2 ^ 53 }
         ensures few { length result.now ≤ 1024 }
     {

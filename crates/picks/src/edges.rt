@@ -24,12 +24,12 @@ pub fn left_edge<T: TableFile>(
     from: Edge,
     start: usize,
 ) -> Edge
-    requires curr_sorted { sorted T.Key.KeyKind.ranks T.Ranged.spans curr.now ≡ true }
-    requires small { (sum_by T.TableFile.bytes curr.now ≤ 2 ^ 53) × (sum_by T.TableFile.bytes next.now ≤ 2 ^ 53) }
+    requires curr_sorted { sorted T.Key.ranks T.spans curr.now ≡ true }
+    requires small { (sum_by T.bytes curr.now ≤ 2 ^ 53) × (sum_by T.bytes next.now ≤ 2 ^ 53) }
     requires few { (length curr.now ≤ 1024) × (length next.now ≤ 1024) }
     requires within { start < length next.now }
-    requires starts { LeftFrom T.Key.KeyKind.ranks T.Ranged.spans curr.now next.now T.TableFile.bytes curr_marks.now.at next_marks.now.at start from }
-    ensures { result ≡ left_of T.Key.KeyKind.ranks T.Ranged.spans curr.now next.now T.TableFile.bytes curr_marks.now.at next_marks.now.at start }
+    requires starts { LeftFrom T.Key.ranks T.spans curr.now next.now T.bytes curr_marks.now.at next_marks.now.at start from }
+    ensures { result ≡ left_of T.Key.ranks T.spans curr.now next.now T.bytes curr_marks.now.at next_marks.now.at start }
 {
     let first = next[start].key_range();
     let begun = partition_point(curr, End::Min, Reach::Before, &first.min);
@@ -49,14 +49,14 @@ pub fn right_edge<T: TableFile>(
     from: Edge,
     left: Edge,
 ) -> Edge
-    requires both_sorted { (sorted T.Key.KeyKind.ranks T.Ranged.spans curr.now ≡ true) × (sorted T.Key.KeyKind.ranks T.Ranged.spans next.now ≡ true) }
-    requires small { (sum_by T.TableFile.bytes curr.now ≤ 2 ^ 53) × (sum_by T.TableFile.bytes next.now ≤ 2 ^ 53) }
+    requires both_sorted { (sorted T.Key.ranks T.spans curr.now ≡ true) × (sorted T.Key.ranks T.spans next.now ≡ true) }
+    requires small { (sum_by T.bytes curr.now ≤ 2 ^ 53) × (sum_by T.bytes next.now ≤ 2 ^ 53) }
     requires few { (length curr.now ≤ 1024) × (length next.now ≤ 1024) }
     requires within { left.next.at < length next.now }
-    requires left { left ≡ left_of T.Key.KeyKind.ranks T.Ranged.spans curr.now next.now T.TableFile.bytes curr_marks.now.at next_marks.now.at left.next.at }
-    requires starts { (from ≡ right_of T.Key.KeyKind.ranks T.Ranged.spans curr.now next.now T.TableFile.bytes curr_marks.now.at next_marks.now.at from.next.at) × (Light T.Key.KeyKind.ranks T.Ranged.spans curr.now next.now T.TableFile.bytes curr_marks.now.at next_marks.now.at left.next.at from.next.at) }
-    ensures edge { result ≡ right_of T.Key.KeyKind.ranks T.Ranged.spans curr.now next.now T.TableFile.bytes curr_marks.now.at next_marks.now.at result.next.at }
-    ensures shortest { Shortest T.Key.KeyKind.ranks T.Ranged.spans curr.now next.now T.TableFile.bytes curr_marks.now.at next_marks.now.at left.next.at result.next.at }
+    requires left { left ≡ left_of T.Key.ranks T.spans curr.now next.now T.bytes curr_marks.now.at next_marks.now.at left.next.at }
+    requires starts { (from ≡ right_of T.Key.ranks T.spans curr.now next.now T.bytes curr_marks.now.at next_marks.now.at from.next.at) × (Light T.Key.ranks T.spans curr.now next.now T.bytes curr_marks.now.at next_marks.now.at left.next.at from.next.at) }
+    ensures edge { result ≡ right_of T.Key.ranks T.spans curr.now next.now T.bytes curr_marks.now.at next_marks.now.at result.next.at }
+    ensures shortest { Shortest T.Key.ranks T.spans curr.now next.now T.bytes curr_marks.now.at next_marks.now.at left.next.at result.next.at }
 {
     let mut end = from.next;
     let mut high = from.curr;

@@ -16,11 +16,11 @@ pub struct Front {
 impl Front {
     /// The front of a run that reaches from here to a place behind.
     pub fn advanced<T: TableFile>(self, run: &[T], marks: &Marks, to: usize) -> Front
-        requires small { sum_by T.TableFile.bytes run.now ≤ 2 ^ 53 }
+        requires small { sum_by T.bytes run.now ≤ 2 ^ 53 }
         requires few { length run.now ≤ 1024 }
         requires behind { (self.at ≤ to) × (to ≤ length run.now) }
-        requires here { self ≡ front T.TableFile.bytes run.now marks.now.at self.at }
-        ensures { result ≡ front T.TableFile.bytes run.now marks.now.at to }
+        requires here { self ≡ front T.bytes run.now marks.now.at self.at }
+        ensures { result ≡ front T.bytes run.now marks.now.at to }
     {
         let mut sum = self.sum;
         let mut count = self.hidden;

@@ -16,7 +16,7 @@ impl Marks {
     /// Looks each table of the run up in the hidden set.
     pub fn new<T: TableFile>(run: &[T], hidden_set: &HiddenSet) -> Marks
         requires { length run.now ≤ 1024 }
-        ensures { Marked T.TableFile.named (hidden hidden_set.now) run.now result.at }
+        ensures { Marked T.named (hidden hidden_set.now) run.now result.at }
     {
         let mut at = [false; 1024];
         for i in 0..run.len() {

@@ -28,14 +28,14 @@ pub(crate) fn cheapest_merge<T: TableFile>(
     next_marks: &Marks,
     target_size: u64,
 ) -> Option<Merging>
-    requires curr_sorted { sorted T.Key.KeyKind.ranks T.Ranged.spans curr.now ≡ true }
-    requires next_sorted { sorted T.Key.KeyKind.ranks T.Ranged.spans next.now ≡ true }
-    requires curr_small { sum_by T.TableFile.bytes curr.now ≤ 2 ^ 53 }
-    requires next_small { sum_by T.TableFile.bytes next.now ≤ 2 ^ 53 }
+    requires curr_sorted { sorted T.Key.ranks T.spans curr.now ≡ true }
+    requires next_sorted { sorted T.Key.ranks T.spans next.now ≡ true }
+    requires curr_small { sum_by T.bytes curr.now ≤ 2 ^ 53 }
+    requires next_small { sum_by T.bytes next.now ≤ 2 ^ 53 }
     requires target_small { target_size ≤ 2 ^ 40 }
     requires curr_few { length curr.now ≤ 1024 }
     requires next_few { length next.now ≤ 1024 }
-    ensures { (hs : List ℕ) → Marked T.TableFile.named hs curr.now curr_marks.now.at → Marked T.TableFile.named hs next.now next_marks.now.at → result ≡ option_map (merging T.Key.KeyKind.ranks T.Ranged.spans curr.now next.now T.TableFile.bytes) (cheapest_merge T.Key.KeyKind.ranks T.Ranged.spans T.TableFile.bytes T.TableFile.named hs curr.now next.now target_size) }
+    ensures { (hs : List ℕ) → Marked T.named hs curr.now curr_marks.now.at → Marked T.named hs next.now next_marks.now.at → result ≡ option_map (merging T.Key.ranks T.spans curr.now next.now T.bytes) (cheapest_merge T.Key.ranks T.spans T.bytes T.named hs curr.now next.now target_size) }
 {
     let cap = 50 * target_size;
     let none = Front {

@@ -12,10 +12,10 @@ use windows::slice_windows::Window;
 /// The longest window without a hidden table whose span meets nothing of the next level, the leftmost among equals.
 /// The answer holds for the hidden numbers that the marks were made from.
 pub fn longest_movable<T: TableFile>(curr: &[T], next: &[T], marks: &Marks) -> Option<Window>
-    requires curr_sorted { sorted T.Key.KeyKind.ranks T.Ranged.spans curr.now ≡ true }
-    requires next_sorted { sorted T.Key.KeyKind.ranks T.Ranged.spans next.now ≡ true }
+    requires curr_sorted { sorted T.Key.ranks T.spans curr.now ≡ true }
+    requires next_sorted { sorted T.Key.ranks T.spans next.now ≡ true }
     requires few { length curr.now ≤ 1024 }
-    ensures { (hs : List ℕ) → Marked T.TableFile.named hs curr.now marks.now.at → result ≡ longest_movable T.Key.KeyKind.ranks T.Ranged.spans T.TableFile.named hs curr.now next.now }
+    ensures { (hs : List ℕ) → Marked T.named hs curr.now marks.now.at → result ≡ longest_movable T.Key.ranks T.spans T.named hs curr.now next.now }
 {
     let mut from = 0;
     let mut gap = 0;

@@ -35,15 +35,15 @@ pub fn pick_minimal_compaction<T: TableFile>(
     hidden_set: &HiddenSet,
     target_size: u64,
 ) -> Picked
-    requires curr_sorted { sorted T.Key.KeyKind.ranks T.Ranged.spans curr.now ≡ true }
-    requires next_sorted { sorted T.Key.KeyKind.ranks T.Ranged.spans next.now ≡ true }
-    requires curr_small { sum_by T.TableFile.bytes curr.now ≤ 2 ^ 53 }
-    requires next_small { sum_by T.TableFile.bytes next.now ≤ 2 ^ 53 }
+    requires curr_sorted { sorted T.Key.ranks T.spans curr.now ≡ true }
+    requires next_sorted { sorted T.Key.ranks T.spans next.now ≡ true }
+    requires curr_small { sum_by T.bytes curr.now ≤ 2 ^ 53 }
+    requires next_small { sum_by T.bytes next.now ≤ 2 ^ 53 }
     requires target_small { target_size ≤ 2 ^ 40 }
     requires curr_few { length curr.now ≤ 1024 }
     requires next_few { length next.now ≤ 1024 }
-    ensures picks { result ≡ pick T.Key.KeyKind.ranks T.Ranged.spans T.TableFile.bytes T.TableFile.named (hidden hidden_set.now) curr.now next.now target_size }
-    ensures law { PickLaw T.Key.KeyKind.ranks T.Ranged.spans T.TableFile.bytes T.TableFile.named (hidden hidden_set.now) curr.now next.now target_size result }
+    ensures picks { result ≡ pick T.Key.ranks T.spans T.bytes T.named (hidden hidden_set.now) curr.now next.now target_size }
+    ensures law { PickLaw T.Key.ranks T.spans T.bytes T.named (hidden hidden_set.now) curr.now next.now target_size result }
 {
     let curr_marks = Marks::new(curr, hidden_set);
     if let Some(window) = longest_movable(curr, next, &curr_marks) {

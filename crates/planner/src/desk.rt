@@ -132,7 +132,7 @@ fn answer_drop<K: KeyText>(
     ids: &mut [u64],
     out: &mut String,
 ) -> Result<(), Fault>
-    ensures { OnOk result ((line : List ℕ) × (string_bytes out.new ≡ string_bytes out.old ++ line) × DropAnswer K.KeyKind.ranks bounds.now tables.now (length ids.old) line) }
+    ensures { OnOk result ((line : List ℕ) × (string_bytes out.new ≡ string_bytes out.old ++ line) × DropAnswer K.ranks bounds.now tables.now (length ids.old) line) }
 {
     match name_tables(tables, bounds, ids) {
         Ok(named) => {
@@ -151,7 +151,7 @@ fn propose_drop<K: KeyText>(
     places: usize,
     out: &mut String,
 ) -> Result<(), Fault>
-    ensures { OnOk result ((line : List ℕ) × (string_bytes out.new ≡ string_bytes out.old ++ line) × DropAnswer K.KeyKind.ranks bounds.now tables.now places line) }
+    ensures { OnOk result ((line : List ℕ) × (string_bytes out.new ≡ string_bytes out.old ++ line) × DropAnswer K.ranks bounds.now tables.now places line) }
 {
     let mut ids = vec![in heap; 0u64; places.min(tables.len())]?;
     answer_drop(tables, bounds, ids.as_mut_slice(), out)

@@ -113,7 +113,7 @@ pub fn write_opened(out: &mut String, count: usize) -> Result<(), Fault>
 
 // A range behind a space.
 fn write_range<K: KeyText>(out: &mut String, range: &KeyRange<K>) -> Result<(), Fault>
-    ensures { OnOk result (string_bytes out.new ≡ string_bytes out.old ++ (32 ∷ (spelt range.now.min ++ (32 ∷ spelt range.now.max)))) }
+    ensures { OnOk result (string_bytes out.new ≡ string_bytes out.old ++ (32 ∷ (K.spelt range.now.min ++ (32 ∷ K.spelt range.now.max)))) }
 {
     write_text(out, " ")?;
     range.min.write_key(out)?;
@@ -124,7 +124,7 @@ fn write_range<K: KeyText>(out: &mut String, range: &KeyRange<K>) -> Result<(), 
 
 /// The line of a table.
 pub fn write_table<K: KeyText>(out: &mut String, table: &Table<K>) -> Result<(), Fault>
-    ensures { OnOk result (string_bytes out.new ≡ string_bytes out.old ++ table_line spelt table.now) }
+    ensures { OnOk result (string_bytes out.new ≡ string_bytes out.old ++ table_line K.spelt table.now) }
 {
     write_text(out, "table")?;
     write_number(out, table.number)?;

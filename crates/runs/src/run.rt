@@ -34,7 +34,7 @@ fn cut<T>(tables: &[T], place: usize, end: usize) -> Stretch<'_, T>
 impl<'a, T: Ranged> Run<'a, T> {
     /// The stretch of the run that meets the range.
     pub fn get_overlapping(self, range: &KeyRange<T::Key>) -> Result<Stretch<'a, T>, Refusal>
-        ensures { shown result ≡ overlapping T.Key.KeyKind.ranks spans range.now self.entry.tables.now }
+        ensures { shown result ≡ overlapping T.Key.ranks T.spans range.now self.entry.tables.now }
     {
         if !is_sorted(self.tables) {
             return Err(Refusal::NotSound);
@@ -46,7 +46,7 @@ impl<'a, T: Ranged> Run<'a, T> {
 
     /// The stretch of the run that lies inside the range.
     pub fn get_contained(self, range: &KeyRange<T::Key>) -> Result<Stretch<'a, T>, Refusal>
-        ensures { shown result ≡ contained T.Key.KeyKind.ranks spans range.now self.entry.tables.now }
+        ensures { shown result ≡ contained T.Key.ranks T.spans range.now self.entry.tables.now }
     {
         if !is_sorted(self.tables) {
             return Err(Refusal::NotSound);
@@ -58,7 +58,7 @@ impl<'a, T: Ranged> Run<'a, T> {
 
     /// The span of the run, none where the run is empty: where the first table begins to where the last ends.
     pub fn aggregate_key_range(self) -> Result<Option<KeyRange<T::Key>>, Refusal>
-        ensures { result ≡ aggregated T.Key.KeyKind.ranks spans self.entry.tables.now }
+        ensures { result ≡ aggregated T.Key.ranks T.spans self.entry.tables.now }
     {
         if !is_sorted(self.tables) {
             return Err(Refusal::NotSound);
@@ -77,7 +77,7 @@ impl<'a, T: Ranged> Run<'a, T> {
 
 /// The span of any tables, in whatever order: from the least min to the greatest max.
 pub fn aggregate<T: Ranged>(tables: &[T]) -> Option<KeyRange<T::Key>>
-    ensures { result ≡ span_of T.Key.KeyKind.ranks spans tables.now }
+    ensures { result ≡ span_of T.Key.ranks T.spans tables.now }
 {
     if tables.len() == 0 {
         return None;

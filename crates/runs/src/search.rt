@@ -22,7 +22,7 @@ pub enum Reach {
 
 /// Whether no max is before its min, and each table ends before the next begins.
 pub fn is_sorted<T: Ranged>(tables: &[T]) -> bool
-    ensures { result ≡ sorted T.Key.KeyKind.ranks spans tables.now }
+    ensures { result ≡ sorted T.Key.ranks T.spans tables.now }
 {
     for i in 0..tables.len() {
         let here = tables[i].key_range();
@@ -41,7 +41,7 @@ pub fn is_sorted<T: Ranged>(tables: &[T]) -> bool
 
 // Whether an end of the table's range lies before the key, or up to it.
 fn has_passed<T: Ranged>(table: &T, end: End, reach: Reach, key: &T::Key) -> bool
-    ensures { result ≡ passed T.Key.KeyKind.ranks spans end reach key.now table.now }
+    ensures { result ≡ passed T.Key.ranks T.spans end reach key.now table.now }
 {
     let range = table.key_range();
     let at = match end {
@@ -56,8 +56,8 @@ fn has_passed<T: Ranged>(table: &T, end: End, reach: Reach, key: &T::Key) -> boo
 
 /// How many tables of a sorted run have passed the key: those are the first ones.
 pub fn partition_point<T: Ranged>(tables: &[T], end: End, reach: Reach, key: &T::Key) -> usize
-    requires { sorted T.Key.KeyKind.ranks spans tables.now ≡ true }
-    ensures count { result ≡ count_by (passed T.Key.KeyKind.ranks spans end reach key.now) tables.now }
+    requires { sorted T.Key.ranks T.spans tables.now ≡ true }
+    ensures count { result ≡ count_by (passed T.Key.ranks T.spans end reach key.now) tables.now }
     ensures within { result ≤ length tables.now }
 {
     let mut low = 0;

@@ -20,8 +20,8 @@ pub const LAST_LEVEL: u8 = 6;
 
 /// Whether the sheet, of which the first `standing` tables stand, is sound with the blob total.
 pub fn is_sound<K: KeyKind>(sheet: &[Table<K>], standing: usize, blob_total: u64) -> bool
-    ensures test { result ≡ sheet_ok ranks (length sheet.now) standing blob_total (take standing sheet.now) }
-    ensures words { Decides result (Sound ranks (length sheet.now) standing blob_total (take standing sheet.now)) }
+    ensures test { result ≡ sheet_ok K.ranks (length sheet.now) standing blob_total (take standing sheet.now) }
+    ensures words { Decides result (Sound K.ranks (length sheet.now) standing blob_total (take standing sheet.now)) }
 {
     if sheet.len() > MOST_TABLES || standing > sheet.len() || blob_total > MOST_BYTES {
         return false;
@@ -32,7 +32,7 @@ pub fn is_sound<K: KeyKind>(sheet: &[Table<K>], standing: usize, blob_total: u64
 // Whether the tables that stand are sound; the sort comes last.
 fn are_sound<K: KeyKind>(tables: &[Table<K>]) -> bool
     requires { length tables.now ≤ 1024 }
-    ensures { result ≡ tables_ok ranks tables.now }
+    ensures { result ≡ tables_ok K.ranks tables.now }
 {
     are_within_limits(tables)
         && total_is_within_limits(tables)
@@ -43,7 +43,7 @@ fn are_sound<K: KeyKind>(tables: &[Table<K>]) -> bool
 
 // Whether a table has a level that there is, a max not before its min, and no size or linked sum that is too large.
 fn is_within_limits<K: KeyKind>(t: &Table<K>) -> bool
-    ensures { result ≡ within_limits ranks t.now }
+    ensures { result ≡ within_limits K.ranks t.now }
 {
     t.level <= LAST_LEVEL
         && t.size <= MOST_BYTES
@@ -53,7 +53,7 @@ fn is_within_limits<K: KeyKind>(t: &Table<K>) -> bool
 
 // Whether each table is within the limits.
 fn are_within_limits<K: KeyKind>(tables: &[Table<K>]) -> bool
-    ensures { result ≡ all_by (within_limits ranks) tables.now }
+    ensures { result ≡ all_by (within_limits K.ranks) tables.now }
 {
     for t in tables {
         if !is_within_limits(t) {
@@ -79,7 +79,7 @@ fn total_is_within_limits<K>(tables: &[Table<K>]) -> bool
 
 // Whether a table comes before another and, in one run, ends before it begins.
 fn is_ahead<K: KeyKind>(t: &Table<K>, u: &Table<K>) -> bool
-    ensures { result ≡ ahead ranks t.now u.now }
+    ensures { result ≡ ahead K.ranks t.now u.now }
 {
     if t.level != u.level {
         return t.level < u.level;
@@ -92,7 +92,7 @@ fn is_ahead<K: KeyKind>(t: &Table<K>, u: &Table<K>) -> bool
 
 // Whether each table is ahead of the next.
 fn are_in_order<K: KeyKind>(tables: &[Table<K>]) -> bool
-    ensures { result ≡ in_order ranks tables.now }
+    ensures { result ≡ in_order K.ranks tables.now }
 {
     for i in 1..tables.len() {
         if !is_ahead(&tables[i - 1], &tables[i]) {

@@ -29,7 +29,7 @@ pub struct Standard;
 impl<K: KeyKind> CompactionStrategy<K> for Standard {
     type Settings = Settings<K>;
 
-    ghost chooses = { λ s ts hs blobs clock. standard K.KeyKind.ranks s ts hs blobs clock };
+    ghost chooses = { λ s ts hs blobs clock. standard K.ranks s ts hs blobs clock };
 
     ghost keeps = { λ s blobs clock. standard_lawful K.KeyKind.total s blobs clock };
 

@@ -14,7 +14,7 @@ use runs::table::Table;
 use sheets::hidden_set::HiddenSet;
 
 impl<K: KeyKind> Picks<K> for OwnedBounds<K> {
-    ghost passes = { λ bounds t. within ranks bounds t.range };
+    ghost passes = { λ bounds t. within K.ranks bounds t.range };
 
     fn picks(&self, table: &Table<K>) -> bool {
         self.contains(&table.range)
@@ -28,9 +28,9 @@ pub struct DropRange;
 impl<K: KeyKind> CompactionStrategy<K> for DropRange {
     type Settings = OwnedBounds<K>;
 
-    ghost chooses = { λ bounds ts hs blobs clock. drop_range K.KeyKind.ranks bounds ts hs };
+    ghost chooses = { λ bounds ts hs blobs clock. drop_range K.ranks bounds ts hs };
 
-    ghost keeps = { λ s blobs clock. drop_range_lawful K.KeyKind.ranks s };
+    ghost keeps = { λ s blobs clock. drop_range_lawful K.ranks s };
 
     fn choose(
         settings: &OwnedBounds<K>,

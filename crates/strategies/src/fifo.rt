@@ -91,7 +91,7 @@ impl<K: KeyKind> CompactionStrategy<K> for Fifo {
 
     ghost chooses = { λ s ts hs blobs clock. fifo s.limit s.ttl_seconds blobs clock ts hs };
 
-    ghost keeps = { λ s blobs clock. fifo_lawful K.KeyKind.ranks s.limit s.ttl_seconds blobs clock };
+    ghost keeps = { λ s blobs clock. fifo_lawful K.ranks s.limit s.ttl_seconds blobs clock };
 
     fn choose(
         settings: &FifoSettings,

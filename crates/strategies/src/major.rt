@@ -41,7 +41,7 @@ impl<K: KeyKind> CompactionStrategy<K> for Major {
 
     ghost chooses = { λ s ts hs blobs clock. major s.target_size ts hs };
 
-    ghost keeps = { λ s blobs clock. major_lawful K.KeyKind.ranks s.target_size };
+    ghost keeps = { λ s blobs clock. major_lawful K.ranks s.target_size };
 
     fn choose(
         settings: &MajorSettings,

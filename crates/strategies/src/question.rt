@@ -38,8 +38,8 @@ pub fn propose<K: KeyKind, S: CompactionStrategy<K>>(
     clock: u64,
     ids: &mut [u64],
 ) -> Result<Choice, Refusal>
-    ensures answer { result ≡ proposed K.KeyKind.ranks (λ ts hs. S.CompactionStrategy.chooses settings.now ts hs blob_total clock) sheet.now standing (hidden hidden_set.now) blob_total (length ids.old) }
-    ensures ids { ids.new ≡ ids_after K.KeyKind.ranks (λ ts hs. S.CompactionStrategy.chooses settings.now ts hs blob_total clock) sheet.now standing (hidden hidden_set.now) blob_total ids.old }
+    ensures answer { result ≡ proposed K.ranks (λ ts hs. S.CompactionStrategy.chooses settings.now ts hs blob_total clock) sheet.now standing (hidden hidden_set.now) blob_total (length ids.old) }
+    ensures ids { ids.new ≡ ids_after K.ranks (λ ts hs. S.CompactionStrategy.chooses settings.now ts hs blob_total clock) sheet.now standing (hidden hidden_set.now) blob_total ids.old }
 {
     if !is_sound(sheet, standing, blob_total) {
         return Err(Refusal::NotSound);

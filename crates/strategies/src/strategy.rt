@@ -29,12 +29,12 @@ pub trait CompactionStrategy<K: KeyKind> {
         clock: u64,
         ids: &mut [u64],
     ) -> Result<Choice, Declined>
-        requires sound { tables_ok K.KeyKind.ranks tables.now ≡ true }
+        requires sound { tables_ok K.ranks tables.now ≡ true }
         requires few { length tables.now ≤ 1024 }
         requires blob { blob_total ≤ 2 ^ 53 }
         requires room { length tables.now ≤ length ids.old }
         ensures answer { result ≡ returned (chooses settings.now tables.now (hidden hidden_set.now) blob_total clock) }
         ensures ids { ids.new ≡ written (chooses settings.now tables.now (hidden hidden_set.now) blob_total clock) ids.old };
 
-    ghost keeps: { (s : Self.Settings) (blobs clock : ℕ) → Law K.KeyKind.ranks (λ ts hs. chooses s ts hs blobs clock) };
+    ghost keeps: { (s : Self.Settings) (blobs clock : ℕ) → Law K.ranks (λ ts hs. chooses s ts hs blobs clock) };
 }

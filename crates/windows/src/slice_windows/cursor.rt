@@ -14,9 +14,9 @@ const MAX_BYTES: u64 = 1 << 53;
 
 /// The windows of some tables: length 1 from the left, then length 2 and on.
 pub fn growing_windows<T: TableFile>(tables: &[T]) -> Result<Windows<'_, T>, Refusal>
-    ensures answer { opened result ≡ readable T.TableFile.bytes (growing (length tables.now)) tables.now }
+    ensures answer { opened result ≡ readable T.bytes (growing (length tables.now)) tables.now }
     ensures all { IfOk result (λ c. EachOnce (Within (length tables.now)) Shorter (left c)) }
-    ensures sums { IfOk result (λ c. Weighed T.TableFile.bytes c) }
+    ensures sums { IfOk result (λ c. Weighed T.bytes c) }
 {
     total(tables)?;
     Ok(Windows {
@@ -28,9 +28,9 @@ pub fn growing_windows<T: TableFile>(tables: &[T]) -> Result<Windows<'_, T>, Ref
 
 /// The windows of some tables: the longest first, each length from the left.
 pub fn shrinking_windows<T: TableFile>(tables: &[T]) -> Result<Windows<'_, T>, Refusal>
-    ensures answer { opened result ≡ readable T.TableFile.bytes (shrinking (length tables.now)) tables.now }
+    ensures answer { opened result ≡ readable T.bytes (shrinking (length tables.now)) tables.now }
     ensures all { IfOk result (λ c. EachOnce (Within (length tables.now)) Longer (left c)) }
-    ensures sums { IfOk result (λ c. Weighed T.TableFile.bytes c) }
+    ensures sums { IfOk result (λ c. Weighed T.bytes c) }
 {
     let bytes = total(tables)?;
     Ok(Windows {
@@ -48,7 +48,7 @@ impl<'a, T: TableFile> Windows<'a, T> {
         ensures ended { left self.old ≡ [] → self.new ≡ self.old }
         ensures tables { self.new.tables ≡ self.old.tables }
         ensures order { self.new.order ≡ self.old.order }
-        ensures sums { Weighed T.TableFile.bytes self.old → Told T.TableFile.bytes result × Weighed T.TableFile.bytes self.new }
+        ensures sums { Weighed T.bytes self.old → Told T.bytes result × Weighed T.bytes self.new }
     {
         let at = self.next?;
         let Window { start, len } = at.window;
@@ -64,7 +64,7 @@ impl<'a, T: TableFile> Windows<'a, T> {
 
 // The sum of all sizes, if it is at most 2^53.
 fn total<T: TableFile>(tables: &[T]) -> Result<u64, Refusal>
-    ensures { result ≡ (if nat_le (sum_by T.TableFile.bytes tables.now) (2 ^ 53) then Ok (sum_by T.TableFile.bytes tables.now) else Err NotSound) }
+    ensures { result ≡ (if nat_le (sum_by T.bytes tables.now) (2 ^ 53) then Ok (sum_by T.bytes tables.now) else Err NotSound) }
 {
     let mut sum = 0;
     for table in tables {
@@ -82,7 +82,7 @@ fn after<T: TableFile>(tables: &[T], order: Order, at: Summed) -> Option<Summed>
     requires { Within (length tables.now) at.window }
     ensures windows { standing order (length tables.now) result ≡ behind order (length tables.now) at.window }
     ensures stands { stands (length tables.now) result ≡ true }
-    ensures sums { sum_by T.TableFile.bytes tables.now ≤ 2 ^ 53 → Right T.TableFile.bytes tables.now at → RightNext T.TableFile.bytes tables.now result }
+    ensures sums { sum_by T.bytes tables.now ≤ 2 ^ 53 → Right T.bytes tables.now at → RightNext T.bytes tables.now result }
 {
     let Window { start, len } = at.window;
     if start + len < tables.len() {
@@ -98,7 +98,7 @@ fn after<T: TableFile>(tables: &[T], order: Order, at: Summed) -> Option<Summed>
 fn further<T: TableFile>(tables: &[T], at: Summed) -> Summed
     requires { at.window.start + at.window.len < length tables.now }
     ensures window { result.window ≡ win (at.window.start + 1) at.window.len }
-    ensures sums { sum_by T.TableFile.bytes tables.now ≤ 2 ^ 53 → Right T.TableFile.bytes tables.now at → Right T.TableFile.bytes tables.now result }
+    ensures sums { sum_by T.bytes tables.now ≤ 2 ^ 53 → Right T.bytes tables.now at → Right T.bytes tables.now result }
 {
     let Window { start, len } = at.window;
     let grown = at.bytes.saturating_add(tables[start + len].file_size());
@@ -116,7 +116,7 @@ fn further<T: TableFile>(tables: &[T], at: Summed) -> Summed
 fn longer<T: TableFile>(tables: &[T], len: usize, front: u64) -> Option<Summed>
     ensures windows { standing Growing (length tables.now) result ≡ growing_from (length tables.now) (len + 1) (length tables.now - len) }
     ensures stands { stands (length tables.now) result ≡ true }
-    ensures sums { sum_by T.TableFile.bytes tables.now ≤ 2 ^ 53 → front ≡ sum_by T.TableFile.bytes (take len tables.now) → RightNext T.TableFile.bytes tables.now result }
+    ensures sums { sum_by T.bytes tables.now ≤ 2 ^ 53 → front ≡ sum_by T.bytes (take len tables.now) → RightNext T.bytes tables.now result }
 {
     if len >= tables.len() {
         return None;
@@ -129,7 +129,7 @@ fn shorter<T: TableFile>(tables: &[T], len: usize, front: u64) -> Option<Summed>
     requires { (0 < len) × (len ≤ length tables.now) }
     ensures windows { standing Shrinking (length tables.now) result ≡ shrinking_from (length tables.now) (len - 1) }
     ensures stands { stands (length tables.now) result ≡ true }
-    ensures sums { front ≡ sum_by T.TableFile.bytes (take len tables.now) → RightNext T.TableFile.bytes tables.now result }
+    ensures sums { front ≡ sum_by T.bytes (take len tables.now) → RightNext T.bytes tables.now result }
 {
     leftmost(len - 1, front.saturating_sub(tables[len - 1].file_size()))
 }

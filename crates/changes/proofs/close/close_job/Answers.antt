@@ -4,11 +4,11 @@ use Rattle.changes.specs.Close.{job}
 use Rattle.changes.proofs.Closings.{Granted, granted, close_refused, swapped_fits, close_sheet, close_done}
 use Rattle.changes.proofs.close.close_job.Goals as goal
 
-pub returns-in-err-test-close : goal.returns-in-err-test-close
-returns-in-err-test-close g c =
+pub returns-in_err-test_close : goal.returns-in_err-test_close
+returns-in_err-test_close g c =
     let p = err_from_is_err_and c.from-residual.result c.from-residual.ensures.1 in
     rw (p.1, p.2) (record {
-      answer = close_refused g.K.KeyKind.ranks (job c.args.kind c.args.destination c.args.numbers.now) c.args.outputs.now c.args.sheet.now c.args.standing c.in-err-test-close.field-0.0 (c.in-err-test-close.ensures c.args.destination);
+      answer = close_refused g.K.KeyKind.ranks (job c.args.kind c.args.destination c.args.numbers.now) c.args.outputs.now c.args.sheet.now c.args.standing c.in_err-test_close.field-0.0 (c.in_err-test_close.ensures c.args.destination);
       sheet = refl;
     })
 
@@ -16,14 +16,14 @@ pub swap-count-requires : goal.swap-count-requires
 swap-count-requires g c =
     let cmp = g.K.KeyKind.ranks in
     let j = job c.args.kind c.args.destination c.args.numbers.now in
-    let ok = granted cmp j c.args.outputs.now c.args.sheet.now c.args.standing (c.in-ok-test-close.ensures c.args.destination) in
+    let ok = granted cmp j c.args.outputs.now c.args.sheet.now c.args.standing (c.in_ok-test_close.ensures c.args.destination) in
     record { within = c.requires.sound.1.fits; room = swapped_fits cmp j c.args.outputs.now c.args.sheet.now c.args.standing ok }
 
 pub recount-requires : goal.recount-requires
 recount-requires g c =
     let cmp = g.K.KeyKind.ranks in
     let j = job c.args.kind c.args.destination c.args.numbers.now in
-    let ok = granted cmp j c.args.outputs.now c.args.sheet.now c.args.standing (c.in-ok-test-close.ensures c.args.destination) in
+    let ok = granted cmp j c.args.outputs.now c.args.sheet.now c.args.standing (c.in_ok-test_close.ensures c.args.destination) in
     let fits = swapped_fits cmp j c.args.outputs.now c.args.sheet.now c.args.standing ok in
     record { within = omega (arith, fits, c.swap-count.ensures.count, c.swap-count.auto.sheet); few = omega (arith, fits, c.swap-count.ensures.count, c.requires.sound.1.few) }
 
@@ -34,6 +34,6 @@ returns g c =
     let fs = c.args.outputs.now in
     let s = c.args.sheet.now in
     let n = c.args.standing in
-    let ok = granted cmp j fs s n (c.in-ok-test-close.ensures c.args.destination) in
+    let ok = granted cmp j fs s n (c.in_ok-test_close.ensures c.args.destination) in
     let after = close_sheet cmp j fs s n ok c.swap-count.result c.swap-count.ensures.count c.swap-count.new.sheet g.met.K.KeyKind.total c.requires.sound c.requires.runs c.recount.new.sheet c.swap-count.ensures.sheet c.recount.ensures in
     record { answer = close_done cmp j fs s n ok c.swap-count.result c.swap-count.ensures.count c.recount.new.sheet (c.recount.auto.sheet ∙ c.swap-count.auto.sheet) after; sheet = after }

@@ -4,15 +4,15 @@ use Rattle.runs.specs.Run.{span_of}
 use Rattle.sheets.specs.Tables.{named}
 use Rattle.changes.proofs.Left.{span_yes, span_no}
 use Rattle.changes.proofs.close.span_held.Goals as goal
-use Rattle.changes.proofs.close.span_held.Goals.{then-is-among, else-is-among}
+use Rattle.changes.proofs.close.span_held.Goals.{then-is_among, else-is_among}
 
 pub loop-i-preserved : goal.loop-i-preserved
 loop-i-preserved g c =
-    elim c.if-is-among.branch [
-      | then-is-among w ↦
+    elim c.if-is_among.branch [
+      | then-is_among w ↦
           w.span_is ∙ ap Some w.grow.ensures
-          ∙ span_yes g.K.KeyKind.ranks c.args.numbers.now c.args.tables.now c.loop-i.i c.index-tables-i.result (omega arith) c.index-tables-i.is w.if-is-among.ensures c.loop-i.span c.loop-i.invariant
-      | else-is-among w ↦ w.span_is ∙ c.loop-i.invariant ∙ span_no g.K.KeyKind.ranks c.args.numbers.now c.args.tables.now c.loop-i.i c.index-tables-i.result (omega arith) c.index-tables-i.is w.if-is-among.ensures
+          ∙ span_yes g.K.KeyKind.ranks c.args.numbers.now c.args.tables.now c.loop-i.i c.index-tables-i.result (omega arith) c.index-tables-i.is w.if-is_among.ensures c.loop-i.span c.loop-i.invariant
+      | else-is_among w ↦ w.span_is ∙ c.loop-i.invariant ∙ span_no g.K.KeyKind.ranks c.args.numbers.now c.args.tables.now c.loop-i.i c.index-tables-i.result (omega arith) c.index-tables-i.is w.if-is_among.ensures
     ]
 
 pub returns : goal.returns

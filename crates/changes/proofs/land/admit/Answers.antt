@@ -7,17 +7,17 @@ use Rattle.changes.proofs.Landings.{admit_bad, admit_full, admit_run}
 use Rattle.changes.proofs.Starts.{from_start}
 use Rattle.changes.proofs.land.admit.Goals as goal
 
-pub has-room-to-land-requires : goal.has-room-to-land-requires
-has-room-to-land-requires g c = record { within = c.requires.1.fits; total = c.requires.1.ordered.total }
+pub has_room_to_land-requires : goal.has_room_to_land-requires
+has_room_to_land-requires g c = record { within = c.requires.1.fits; total = c.requires.1.ordered.total }
 
-pub returns-then-not-is-fresh-ok : goal.returns-then-not-is-fresh-ok
-returns-then-not-is-fresh-ok g c = admit_bad g.K.KeyKind.ranks c.args.fresh.now c.args.sheet.now c.args.standing c.if-not-is-fresh-ok.ensures
+pub returns-then-not-is_fresh_ok : goal.returns-then-not-is_fresh_ok
+returns-then-not-is_fresh_ok g c = admit_bad g.K.KeyKind.ranks c.args.fresh.now c.args.sheet.now c.args.standing c.if-not-is_fresh_ok.ensures
 
-pub returns-then-not-has-room-to-land : goal.returns-then-not-has-room-to-land
-returns-then-not-has-room-to-land g c = admit_full g.K.KeyKind.ranks c.args.fresh.now c.args.sheet.now c.args.standing c.if-not-is-fresh-ok.ensures c.if-not-has-room-to-land.ensures
+pub returns-then-not-has_room_to_land : goal.returns-then-not-has_room_to_land
+returns-then-not-has_room_to_land g c = admit_full g.K.KeyKind.ranks c.args.fresh.now c.args.sheet.now c.args.standing c.if-not-is_fresh_ok.ensures c.if-not-has_room_to_land.ensures
 
-pub landing-run-requires : goal.landing-run-requires
-landing-run-requires g c =
+pub landing_run-requires : goal.landing_run-requires
+landing_run-requires g c =
     let s = c.args.sheet.now in
     let n = c.args.standing in
     let sound = c.requires.1 in
@@ -26,4 +26,4 @@ landing-run-requires g c =
 
 pub returns : goal.returns
 returns g c =
-    admit_run g.K.KeyKind.ranks c.args.fresh.now c.args.sheet.now c.args.standing c.if-not-is-fresh-ok.ensures c.if-not-has-room-to-land.ensures c.landing_run.result c.landing_run.ensures
+    admit_run g.K.KeyKind.ranks c.args.fresh.now c.args.sheet.now c.args.standing c.if-not-is_fresh_ok.ensures c.if-not-has_room_to_land.ensures c.landing_run.result c.landing_run.ensures

@@ -3,13 +3,13 @@ use Rattle.std.proofs.lemmas.Result.{err_from_is_err_and}
 use Rattle.changes.proofs.Landings.{land_refused, land_within, land_sheet, land_done}
 use Rattle.changes.proofs.land.land_table.Goals as goal
 
-pub returns-in-err-run : goal.returns-in-err-run
-returns-in-err-run g c =
+pub returns-in_err-run : goal.returns-in_err-run
+returns-in_err-run g c =
     let p = err_from_is_err_and c.from-residual.result c.from-residual.ensures.1 in
-    rw (p.1, p.2) (record { answer = land_refused g.K.KeyKind.ranks c.args.fresh.now c.args.sheet.now c.args.standing c.in-err-run.field-0.0 c.in-err-run.ensures; sheet = refl })
+    rw (p.1, p.2) (record { answer = land_refused g.K.KeyKind.ranks c.args.fresh.now c.args.sheet.now c.args.standing c.in_err-run.field-0.0 c.in_err-run.ensures; sheet = refl })
 
 pub insert-requires : goal.insert-requires
-insert-requires g c = land_within g.K.KeyKind.ranks c.args.fresh.now c.args.sheet.now c.args.standing c.in-ok-run.run' c.in-ok-run.ensures c.requires.1.fits
+insert-requires g c = land_within g.K.KeyKind.ranks c.args.fresh.now c.args.sheet.now c.args.standing c.in_ok-run.run' c.in_ok-run.ensures c.requires.1.fits
 
 pub returns : goal.returns
 returns g c =
@@ -17,7 +17,7 @@ returns g c =
     let f = c.args.fresh.now in
     let s = c.args.sheet.now in
     let n = c.args.standing in
-    let run = c.in-ok-run.run' in
-    let h = c.in-ok-run.ensures in
-    let after = land_sheet cmp f s n run h c.insert.new.sheet c.table-of.result c.table-of.ensures c.insert.ensures in
+    let run = c.in_ok-run.run' in
+    let h = c.in_ok-run.ensures in
+    let after = land_sheet cmp f s n run h c.insert.new.sheet c.table_of.result c.table_of.ensures c.insert.ensures in
     record { answer = land_done cmp f s n run h c.requires.1.fits c.insert.new.sheet c.insert.auto.sheet after; sheet = after }

@@ -2,14 +2,14 @@ use Rattle.std.proofs.Common.{sym, arith}
 use Rattle.sheets.proofs.Inserts.{place_here, place_later, place_last}
 use Rattle.edits.proofs.order.place_of.Goals as goal
 
-pub returns-then-is-sooner : goal.returns-then-is-sooner
-returns-then-is-sooner g c =
-    let here = place_here g.K.KeyKind.ranks c.args.table.now c.args.sheet.now c.args.count c.requires c.loop-i.i c.index-sheet-i.result c.loop-i-test.true c.index-sheet-i.is (sym c.if-is-sooner.ensures) in
+pub returns-then-is_sooner : goal.returns-then-is_sooner
+returns-then-is_sooner g c =
+    let here = place_here g.K.KeyKind.ranks c.args.table.now c.args.sheet.now c.args.count c.requires c.loop-i.i c.index-sheet-i.result c.loop-i-test.true c.index-sheet-i.is (sym c.if-is_sooner.ensures) in
     omega (arith, c.loop-i.invariant, here)
 
 pub loop-i-preserved : goal.loop-i-preserved
 loop-i-preserved g c =
-    let later = place_later g.K.KeyKind.ranks c.args.table.now c.args.sheet.now c.args.count c.requires c.loop-i.i c.index-sheet-i.result c.loop-i-test.true c.index-sheet-i.is (sym c.if-is-sooner.ensures) in
+    let later = place_later g.K.KeyKind.ranks c.args.table.now c.args.sheet.now c.args.count c.requires c.loop-i.i c.index-sheet-i.result c.loop-i-test.true c.index-sheet-i.is (sym c.if-is_sooner.ensures) in
     omega (arith, c.loop-i.invariant, later)
 
 pub returns : goal.returns

@@ -13,7 +13,7 @@ loop-i-preserved g c =
     let cmp = g.K.KeyKind.ranks in
     let s' = c.loop-i.sheet in
     arrived_more cmp (settled c.args.level 0) c.args.sheet.now c.args.count c.args.outputs.now c.loop-i.i s' c.insert.new.sheet c.index-outputs-i.result
-    (omega arith) c.loop-i-test.true c.index-outputs-i.is c.loop-i.invariant (c.insert.ensures ∙ ap (λ t. laid (insert cmp t (take (c.args.count + c.loop-i.i) s')) s') c.table-of.ensures)
+    (omega arith) c.loop-i-test.true c.index-outputs-i.is c.loop-i.invariant (c.insert.ensures ∙ ap (λ t. laid (insert cmp t (take (c.args.count + c.loop-i.i) s')) s') c.table_of.ensures)
 
 pub returns : goal.returns
 returns g c =

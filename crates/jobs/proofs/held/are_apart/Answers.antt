@@ -6,4 +6,4 @@ use Rattle.jobs.proofs.held.are_apart.Goals as goal
 
 pub returns : goal.returns
 returns g c =
-    c.marked-are-apart.ensures ∙ ap (unmet g.K.KeyKind.ranks) (marked_by (named c.args.numbers.now) c.marks-of-marks.result c.args.tables.now c.marks-of-marks.ensures)
+    c.marked_are_apart.ensures ∙ ap (unmet g.K.KeyKind.ranks) (marked_by (named c.args.numbers.now) c.marks_of-marks.result c.args.tables.now c.marks_of-marks.ensures)

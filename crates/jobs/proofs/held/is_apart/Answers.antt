@@ -7,14 +7,14 @@ use Rattle.jobs.specs.Held.{marked}
 use Rattle.jobs.proofs.Holding.{marked_read, marked_skip, marked_none}
 use Rattle.jobs.proofs.held.is_apart.Goals as goal
 
-pub returns-then-overlaps-with-key-range : goal.returns-then-overlaps-with-key-range
-returns-then-overlaps-with-key-range g c =
+pub returns-then-overlaps_with_key_range : goal.returns-then-overlaps_with_key_range
+returns-then-overlaps_with_key_range g c =
     let q : Table g.row.K.Denot → Bool = λ u. not (meets g.K.KeyKind.ranks c.args.t.now.range u.range) in
     let ts = c.args.tables.now in
     let ms = c.args.marks.now in
     let i = c.loop-i.i in
     let step = marked_read (all_by q) ms ts i c.index-tables-i.result (omega arith) (omega arith) true c.if-marks-i.true in
-    ap (λ b. not b && all_by q (marked (drop (i + 1) ms) (drop (i + 1) ts))) c.if-overlaps-with-key-range.ensures ∙ sym step ∙ c.loop-i.invariant
+    ap (λ b. not b && all_by q (marked (drop (i + 1) ms) (drop (i + 1) ts))) c.if-overlaps_with_key_range.ensures ∙ sym step ∙ c.loop-i.invariant
 
 pub loop-i-preserved : goal.loop-i-preserved
 loop-i-preserved g c =
@@ -23,9 +23,9 @@ loop-i-preserved g c =
     let ms = c.args.marks.now in
     let i = c.loop-i.i in
     elim c.else-marks-i.branch [
-      | goal.else-marks-i-via-then-marks-i+else-overlaps-with-key-range w ↦
+      | goal.else-marks-i-via-then-marks-i+else-overlaps_with_key_range w ↦
           let step = marked_read (all_by q) ms ts i w.index-tables-i.result (omega arith) (omega arith) true w.if-marks-i.true in
-          ap (λ b. not b && all_by q (marked (drop (i + 1) ms) (drop (i + 1) ts))) w.if-overlaps-with-key-range.ensures ∙ sym step ∙ c.loop-i.invariant
+          ap (λ b. not b && all_by q (marked (drop (i + 1) ms) (drop (i + 1) ts))) w.if-overlaps_with_key_range.ensures ∙ sym step ∙ c.loop-i.invariant
       | goal.else-marks-i-via-else-marks-i w ↦ sym (marked_skip (all_by q) ms ts i (omega arith) (omega arith) w.if-marks-i.false) ∙ c.loop-i.invariant
     ]
 

@@ -4,14 +4,14 @@ use Rattle.jobs.specs.Held.{marked, unmet}
 use Rattle.jobs.proofs.Holding.{marked_at, marked_skip, marked_none}
 use Rattle.jobs.proofs.held.marked_are_apart.Goals as goal
 
-pub returns-then-not-is-apart : goal.returns-then-not-is-apart
-returns-then-not-is-apart g c =
+pub returns-then-not-is_apart : goal.returns-then-not-is_apart
+returns-then-not-is_apart g c =
     let cmp = g.K.KeyKind.ranks in
     let ts = c.args.tables.now in
     let ms = c.args.marks.now in
     let i = c.loop-i.i in
     let step = marked_at (unmet cmp) ms ts i c.index-tables-i.result (omega arith) (omega arith) c.index-tables-i.is true c.if-marks-i.true in
-    ap (λ b. b && unmet cmp (marked (drop (i + 1) ms) (drop (i + 1) ts))) c.if-not-is-apart.ensures ∙ sym step ∙ c.loop-i.invariant
+    ap (λ b. b && unmet cmp (marked (drop (i + 1) ms) (drop (i + 1) ts))) c.if-not-is_apart.ensures ∙ sym step ∙ c.loop-i.invariant
 
 pub loop-i-preserved : goal.loop-i-preserved
 loop-i-preserved g c =
@@ -20,9 +20,9 @@ loop-i-preserved g c =
     let ms = c.args.marks.now in
     let i = c.loop-i.i in
     elim c.else-marks-i.branch [
-      | goal.else-marks-i-via-then-marks-i+else-not-is-apart w ↦
+      | goal.else-marks-i-via-then-marks-i+else-not-is_apart w ↦
           let step = marked_at (unmet cmp) ms ts i w.index-tables-i.result (omega arith) (omega arith) w.index-tables-i.is true w.if-marks-i.true in
-          ap (λ b. b && unmet cmp (marked (drop (i + 1) ms) (drop (i + 1) ts))) w.if-not-is-apart.ensures ∙ sym step ∙ c.loop-i.invariant
+          ap (λ b. b && unmet cmp (marked (drop (i + 1) ms) (drop (i + 1) ts))) w.if-not-is_apart.ensures ∙ sym step ∙ c.loop-i.invariant
       | goal.else-marks-i-via-else-marks-i w ↦ sym (marked_skip (unmet cmp) ms ts i (omega arith) (omega arith) w.if-marks-i.false) ∙ c.loop-i.invariant
     ]
 

@@ -12,10 +12,10 @@ loop-i-preserved g c =
     let t = c.index-tables-i.result in
     let h : i < length ts = c.loop-i-test.true in
     let room : i < length c.loop-i.marks = omega arith in
-    let mark : ◌≡◌ {A = Bool} c.is-among.result (f (get_or ts i t)) = c.is-among.ensures in (
-      length-set c.loop-i.marks i c.is-among.result ∙ c.loop-i.invariant.0,
-      take_more_set c.loop-i.marks i c.is-among.result room
-          ∙ ap (λ ms. ms ++ c.is-among.result ∷ []) c.loop-i.invariant.1
+    let mark : ◌≡◌ {A = Bool} c.is_among.result (f (get_or ts i t)) = c.is_among.ensures in (
+      length-set c.loop-i.marks i c.is_among.result ∙ c.loop-i.invariant.0,
+      take_more_set c.loop-i.marks i c.is_among.result room
+          ∙ ap (λ ms. ms ++ c.is_among.result ∷ []) c.loop-i.invariant.1
           ∙ ap (λ m. map f (take i ts) ++ m ∷ []) mark
           ∙ sym (map_more f ts i t h),
     )

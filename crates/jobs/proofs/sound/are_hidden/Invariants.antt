@@ -5,4 +5,4 @@ use Rattle.sheets.specs.Tables.{memb}
 use Rattle.jobs.proofs.sound.are_hidden.Given as goal
 
 abbrev pub invariant-loop-number : goal.invariant-loop-number
-invariant-loop-number l = all_by (λ n. memb n (hidden l.hidden-set)) (drop l.number-index l.numbers) ≡ all_by (λ n. memb n (hidden l.hidden-set)) l.numbers
+invariant-loop-number l = all_by (λ n. memb n (hidden l.hidden_set)) (drop l.number-index l.numbers) ≡ all_by (λ n. memb n (hidden l.hidden_set)) l.numbers

@@ -8,5 +8,5 @@ use Rattle.jobs.proofs.sound.are_kept.Given as goal
 
 abbrev pub invariant-loop-job : goal.invariant-loop-job
 invariant-loop-job g l =
-    all_by (λ job. free_or (job_ok g.K.KeyKind.ranks l.tables (hidden l.hidden-set)) (slot job)) (drop l.job-index l.jobs)
-    ≡ all_by (λ job. free_or (job_ok g.K.KeyKind.ranks l.tables (hidden l.hidden-set)) (slot job)) l.jobs
+    all_by (λ job. free_or (job_ok g.K.KeyKind.ranks l.tables (hidden l.hidden_set)) (slot job)) (drop l.job-index l.jobs)
+    ≡ all_by (λ job. free_or (job_ok g.K.KeyKind.ranks l.tables (hidden l.hidden_set)) (slot job)) l.jobs

@@ -26,12 +26,12 @@ in_two : {K : Type 0} (cmp : K → K → Ordering) (ts : List (Table K)) (hs : L
     → (owned ts hs jobs && (all_by (job_ok cmp ts hs) jobs && pairs_by (jobs_apart cmp ts) jobs)) ≡ book_ok cmp ts hs jobs
 in_two cmp ts hs jobs few = regroup (leb (length hs) 256) (leb (length jobs) 8) (distinct hs) _ _ (le-leb (length jobs) 8 few)
 
-pub returns-then-are-owned : goal.returns-then-are-owned
-returns-then-are-owned g c =
+pub returns-then-are_owned : goal.returns-then-are_owned
+returns-then-are_owned g c =
     let cmp = g.K.KeyKind.ranks in
     let ts = c.args.tables.now in
-    let hs = hidden c.args.hidden-set.now in
+    let hs = hidden c.args.hidden_set.now in
     let jobs = running (map slot c.args.jobs.now) in
     let lawful : Bool = all_by (job_ok cmp ts hs) jobs && pairs_by (jobs_apart cmp ts) jobs in
     let few : length jobs ≤ 8 = omega (arith, running_few (map slot c.args.jobs.now), length-map c.args.jobs.now slot, c.requires.eight) in
-    c.are-lawful.ensures ∙ ap (λ b. b && lawful) (c.if-are-owned.ensures ∙ ap (λ ns. owned ts ns jobs) c.as-slice.ensures) ∙ in_two cmp ts hs jobs few
+    c.are_lawful.ensures ∙ ap (λ b. b && lawful) (c.if-are_owned.ensures ∙ ap (λ ns. owned ts ns jobs) c.as_slice.ensures) ∙ in_two cmp ts hs jobs few

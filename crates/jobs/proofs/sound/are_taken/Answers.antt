@@ -16,7 +16,7 @@ returns-then-not-stands g c =
     let fails = all_fails p ns i (get_or ns i 0) (omega arith) (number_read ns i (omega arith)) in
     elim c.then-not-stands.branch [
       | goal.then-not-stands-via-then-not-stands w ↦ fails (sym (and_left _ _ (sym w.if-not-stands.ensures))) c.loop-number.invariant
-      | goal.then-not-stands-via-else-not-stands+then-not-is-taken w ↦ fails (sym (and_right _ _ (sym w.if-not-is-taken.ensures))) c.loop-number.invariant
+      | goal.then-not-stands-via-else-not-stands+then-not-is_taken w ↦ fails (sym (and_right _ _ (sym w.if-not-is_taken.ensures))) c.loop-number.invariant
     ]
 
 pub loop-number-preserved : goal.loop-number-preserved
@@ -24,7 +24,7 @@ loop-number-preserved g c =
     let ns = c.args.numbers.now in
     let i = c.loop-number.number-index in
     let p : ℕ → Bool = λ n. memb n (numbers_of c.args.tables.now) && some (λ j. memb n j.numbers) (running (map slot c.args.jobs.now)) in
-    all_next p ns i (get_or ns i 0) (omega arith) (number_read ns i (omega arith)) (sym (and_from _ _ (sym c.if-not-stands.ensures) (sym c.if-not-is-taken.ensures))) c.loop-number.invariant
+    all_next p ns i (get_or ns i 0) (omega arith) (number_read ns i (omega arith)) (sym (and_from _ _ (sym c.if-not-stands.ensures) (sym c.if-not-is_taken.ensures))) c.loop-number.invariant
 
 pub returns : goal.returns
 returns g c =

@@ -7,4 +7,4 @@ use Rattle.leveled.proofs.survey.hold.Given as goal
 
 abbrev pub invariant-loop-t : goal.invariant-loop-t
 invariant-loop-t g l =
-    (l.free-bytes ≡ size_of (without (hidden l.hidden-set) (take l.t-index l.tables))) × (l.is-busy ≡ some (named (hidden l.hidden-set)) (take l.t-index l.tables))
+    (l.free_bytes ≡ size_of (without (hidden l.hidden_set) (take l.t-index l.tables))) × (l.is_busy ≡ some (named (hidden l.hidden_set)) (take l.t-index l.tables))

@@ -12,7 +12,7 @@ hold-requires g c = omega (arith, ap size_of c.level.ensures.tables, level_less 
 
 pub loop-n-preserved : goal.loop-n-preserved
 loop-n-preserved g c =
-    let hs = hidden c.args.hidden-set.now in
+    let hs = hidden c.args.hidden_set.now in
     let levels = c.loop-n.levels in
     let n = c.loop-n.n in
     let is = c.hold.ensures ∙ ap (holding_of hs) c.level.ensures.tables in
@@ -20,4 +20,4 @@ loop-n-preserved g c =
 
 pub returns : goal.returns
 returns g c =
-    filling_all (held (hidden c.args.hidden-set.now) c.args.tables.now) c.loop-n.levels c.loop-n.n 7 c.loop-n.invariant.0 (omega arith) c.loop-n.invariant.1
+    filling_all (held (hidden c.args.hidden_set.now) c.args.tables.now) c.loop-n.levels c.loop-n.n 7 c.loop-n.invariant.0 (omega arith) c.loop-n.invariant.1

@@ -16,6 +16,6 @@ returns g c =
     record {
       named = cc;
       ids =
-          laid_behind (numbers_of ts) (numbers_of us) ids c.list-ids.new.ids c.list-ids-2.new.ids (length ts) (sym (length-map ts (λ t. t.number))) c.list-ids.ensures c.list-ids-2.ensures
+          laid_behind (numbers_of ts) (numbers_of us) ids c.list_ids.new.ids c.list_ids-2.new.ids (length ts) (sym (length-map ts (λ t. t.number))) c.list_ids.ensures c.list_ids-2.ensures
           ∙ ap (λ l. laid l ids) (sym (map-append (λ t. t.number) ts us));
     }

@@ -20,29 +20,29 @@ digits_small x u d e f = subst (λ (z : ℕ). z ≤ 2 ^ 24) (sym (by_unit x u d 
 is_product : (x u d : ℕ) → u ≡ 2 ^ past x → d ≡ closest x u → d * u ≡ closest x (2 ^ past x) * 2 ^ past x
 is_product x u d e f = ap (λ (z : ℕ). z * u) (by_unit x u d e f) ∙ ap (λ (z : ℕ). closest x (2 ^ past x) * z) e
 
-pub nearest-multiple-digits-requires : goal.nearest-multiple-digits-requires
-nearest-multiple-digits-requires c =
-    let p = unit_pos c.args.x c.unit-of-unit.result c.unit-of-unit.ensures in
-    let l = unit_le c.args.x c.unit-of-unit.result c.requires c.unit-of-unit.ensures in
+pub nearest_multiple-digits-requires : goal.nearest_multiple-digits-requires
+nearest_multiple-digits-requires c =
+    let p = unit_pos c.args.x c.unit_of-unit.result c.unit_of-unit.ensures in
+    let l = unit_le c.args.x c.unit_of-unit.result c.requires c.unit_of-unit.ensures in
     (p, (omega arith, omega arith))
 
-pub overflow-cast-result : goal.overflow-cast-result
-overflow-cast-result c =
-    let l = digits_small c.args.x c.unit-of-unit.result c.nearest-multiple-digits.result c.unit-of-unit.ensures c.nearest-multiple-digits.ensures in
+pub overflow_cast-result : goal.overflow_cast-result
+overflow_cast-result c =
+    let l = digits_small c.args.x c.unit_of-unit.result c.nearest_multiple-digits.result c.unit_of-unit.ensures c.nearest_multiple-digits.ensures in
     record { fits = omega arith }
 
-pub overflow-cast-result-2 : goal.overflow-cast-result-2
-overflow-cast-result-2 c =
-    let l = unit_le c.args.x c.unit-of-unit.result c.requires c.unit-of-unit.ensures in
+pub overflow_cast-result-2 : goal.overflow_cast-result-2
+overflow_cast-result-2 c =
+    let l = unit_le c.args.x c.unit_of-unit.result c.requires c.unit_of-unit.ensures in
     record { fits = omega arith }
 
 pub returns : goal.returns
 returns c =
     let x = c.args.x in
-    let u = c.unit-of-unit.result in
-    let d = c.nearest-multiple-digits.result in
-    let e = c.unit-of-unit.ensures in
-    let f = c.nearest-multiple-digits.ensures in
+    let u = c.unit_of-unit.result in
+    let d = c.nearest_multiple-digits.result in
+    let e = c.unit_of-unit.ensures in
+    let f = c.nearest_multiple-digits.ensures in
     let q = is_product x u d e f in record {
       value = q ∙ digits_rounded x c.requires;
       same = ap single q ∙ digits_single x c.requires;

@@ -8,5 +8,5 @@ fits k h = ap (λ (z : ℕ). z % 2 ^ 64) (one-mul (2 ^ k)) ∙ mod-eq_of_lt (pow
 
 pub returns : goal.returns
 returns c =
-    let k = c.saturating-sub.result in
-    fits k (omega arith) ∙ ap (λ (z : ℕ). 2 ^ z) (c.saturating-sub.ensures ∙ ap (λ (z : ℕ). z - 24) (sym (size_leading c.args.x c.ranges.x.fits)))
+    let k = c.saturating_sub.result in
+    fits k (omega arith) ∙ ap (λ (z : ℕ). 2 ^ z) (c.saturating_sub.ensures ∙ ap (λ (z : ℕ). z - 24) (sym (size_leading c.args.x c.ranges.x.fits)))

@@ -19,12 +19,12 @@ advanced-high-requires g c =
     let next = c.args.next.now in
     let e = c.loop-end.end.at in
     let h : e < length next = elim c.if-end-left.branch [ then-end-left w ↦ omega (arith, w.if-end-left.true, c.requires.within) | else-end-left+then-end-next w ↦ w.if-end-next.true.1 ] in
-    let reach_is = place_found laws spans Max Max UpTo curr next e c.index-next-end.result c.key-range-last.result.now c.partition-point-reach.result h c.index-next-end.is c.key-range-last.ensures c.partition-point-reach.ensures.count in
+    let reach_is = place_found laws spans Max Max UpTo curr next e c.index-next-end.result c.key_range-last.result.now c.partition_point-reach.result h c.index-next-end.is c.key_range-last.ensures c.partition_point-reach.ensures.count in
     let at = ap (λ (x : Front). x.at) c.loop-end.invariant.1 in
     record {
       small = c.requires.small.0;
       few = c.requires.few.0;
-      behind = (omega (arith, reach_is, at, ended_mono laws spans curr next c.requires.both-sorted.1 e (e + 1) (omega arith), ended_last laws spans curr next (e + 1) e refl), c.partition-point-reach.ensures.within);
+      behind = (omega (arith, reach_is, at, ended_mono laws spans curr next c.requires.both_sorted.1 e (e + 1) (omega arith), ended_last laws spans curr next (e + 1) e refl), c.partition_point-reach.ensures.within);
       here = c.loop-end.invariant.1 ∙ ap (front g.T.TableFile.bytes curr c.args.curr_marks.now.at) (sym at);
     }
 
@@ -37,16 +37,16 @@ loop-end-preserved g c =
     let curr = c.args.curr.now in
     let next = c.args.next.now in
     let cm = c.args.curr_marks.now.at in
-    let nm = c.args.next-marks.now.at in
+    let nm = c.args.next_marks.now.at in
     let s = c.args.left.next.at in
     let e = c.loop-end.end.at in
     let h : e < length next = elim c.if-end-left.branch [ then-end-left w ↦ omega (arith, w.if-end-left.true, c.requires.within) | else-end-left+then-end-next w ↦ w.if-end-next.true.1 ] in
-    let reach_is = place_found laws spans Max Max UpTo curr next e c.index-next-end.result c.key-range-last.result.now c.partition-point-reach.result h c.index-next-end.is c.key-range-last.ensures c.partition-point-reach.ensures.count in
+    let reach_is = place_found laws spans Max Max UpTo curr next e c.index-next-end.result c.key_range-last.result.now c.partition_point-reach.result h c.index-next-end.is c.key_range-last.ensures c.partition_point-reach.ensures.count in
     let high_sum = ap (λ (x : Front). x.sum) c.loop-end.invariant.1 in
     let why : (e ≤ s) ⊎ ((right_of cmp spans curr next bytes cm nm e).curr.sum ≤ (left_of cmp spans curr next bytes cm nm s).curr.sum) =
     elim c.if-end-left.branch [ then-end-left w ↦ inl w.if-end-left.true | else-end-left+then-end-next w ↦ inr (omega (arith, w.if-end-next.true.0, high_sum, ap (λ (x : Edge). x.curr.sum) c.requires.left)) ] in
     let at : c.advanced-end.result.at ≡ e + 1 = ap (λ (x : Front). x.at) c.advanced-end.ensures in (
       c.advanced-end.ensures ∙ ap (front bytes next nm) (sym at),
       c.advanced-high.ensures ∙ ap (front bytes curr cm) (reach_is ∙ sym (ended_last laws spans curr next c.advanced-end.result.at e at)),
-      subst (λ (n : ℕ). Light cmp spans curr next bytes cm nm s n) (sym at) (light_more laws spans curr next c.requires.both-sorted.1 bytes cm nm s e c.loop-end.invariant.2 h why),
+      subst (λ (n : ℕ). Light cmp spans curr next bytes cm nm s n) (sym at) (light_more laws spans curr next c.requires.both_sorted.1 bytes cm nm s e c.loop-end.invariant.2 h why),
     )

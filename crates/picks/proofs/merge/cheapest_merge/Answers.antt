@@ -7,7 +7,7 @@ use Rattle.picks.proofs.Merges.{found_none, found_all, turn_bars, turn_finds}
 use Rattle.picks.proofs.Shortest.{allowed_gives}
 use Rattle.picks.proofs.Turns.{same_edge, ended_none, left_none, left_next, light_none, light_next, edges_open}
 use Rattle.picks.proofs.merge.cheapest_merge.Goals as goal
-use Rattle.picks.proofs.merge.cheapest_merge.Goals.{then-is-allowed, else-is-allowed}
+use Rattle.picks.proofs.merge.cheapest_merge.Goals.{then-is_allowed, else-is_allowed}
 
 pub loop-i-init : goal.loop-i-init
 loop-i-init g c =
@@ -18,30 +18,30 @@ loop-i-init g c =
     let curr = c.args.curr.now in
     let next = c.args.next.now in
     let cm = c.args.curr_marks.now.at in
-    let nm = c.args.next-marks.now.at in (
-      left_none laws spans curr next c.requires.next-sorted bytes cm nm _ refl refl,
+    let nm = c.args.next_marks.now.at in (
+      left_none laws spans curr next c.requires.next_sorted bytes cm nm _ refl refl,
       same_edge _ _ refl (ap (front bytes curr cm) (sym (ended_none laws spans curr next))),
-      light_none laws spans curr next c.requires.next-sorted bytes cm nm 0,
+      light_none laws spans curr next c.requires.next_sorted bytes cm nm 0,
       λ hs m n. found_none cmp spans bytes g.T.TableFile.named hs curr next c.args.target_at,
     )
 
-pub is-allowed-requires : goal.is-allowed-requires
-is-allowed-requires g c =
-    let start = ap (λ (x : Edge). x.next.at) c.left-edge-left.ensures in
+pub is_allowed-requires : goal.is_allowed-requires
+is_allowed-requires g c =
+    let start = ap (λ (x : Edge). x.next.at) c.left_edge-left.ensures in
     omega (
       arith,
-      ap (λ (x : Edge). x.next.sum) c.left-edge-left.ensures,
-      ap (λ (x : Edge). x.next.sum) c.right-edge-right.ensures.edge,
-      sum_mono g.T.TableFile.bytes c.args.next.now c.loop-i.i c.right-edge-right.result.next.at (omega (arith, start, c.right-edge-right.ensures.shortest.past)),
+      ap (λ (x : Edge). x.next.sum) c.left_edge-left.ensures,
+      ap (λ (x : Edge). x.next.sum) c.right_edge-right.ensures.edge,
+      sum_mono g.T.TableFile.bytes c.args.next.now c.loop-i.i c.right_edge-right.result.next.at (omega (arith, start, c.right_edge-right.ensures.shortest.past)),
     )
 
-pub merge-between-requires : goal.merge-between-requires
-merge-between-requires g c =
-    let start = ap (λ (x : Edge). x.next.at) c.left-edge-left.ensures in
-    let a = allowed_gives (50 * c.args.target_at) c.left-edge-left.result c.right-edge-right.result (sym c.is-allowed.ensures ∙ c.if-is-allowed.true) in
-    edges_open g.met.Key.KeyKind.total g.T.Ranged.spans c.args.curr.now c.args.next.now c.requires.next-sorted g.T.TableFile.bytes c.args.curr_marks.now.at c.args.next-marks.now.at
-    c.loop-i.i c.right-edge-right.result.next.at c.left-edge-left.result c.right-edge-right.result c.left-edge-left.ensures c.right-edge-right.ensures.edge
-    (omega (arith, start, c.right-edge-right.ensures.shortest.past)) a.weighs c.requires.curr-small c.requires.next_small
+pub merge_between-requires : goal.merge_between-requires
+merge_between-requires g c =
+    let start = ap (λ (x : Edge). x.next.at) c.left_edge-left.ensures in
+    let a = allowed_gives (50 * c.args.target_at) c.left_edge-left.result c.right_edge-right.result (sym c.is_allowed.ensures ∙ c.if-is_allowed.true) in
+    edges_open g.met.Key.KeyKind.total g.T.Ranged.spans c.args.curr.now c.args.next.now c.requires.next_sorted g.T.TableFile.bytes c.args.curr_marks.now.at c.args.next_marks.now.at
+    c.loop-i.i c.right_edge-right.result.next.at c.left_edge-left.result c.right_edge-right.result c.left_edge-left.ensures c.right_edge-right.ensures.edge
+    (omega (arith, start, c.right_edge-right.ensures.shortest.past)) a.weighs c.requires.curr_small c.requires.next_small
 
 pub loop-i-preserved : goal.loop-i-preserved
 loop-i-preserved g c =
@@ -53,30 +53,30 @@ loop-i-preserved g c =
     let curr = c.args.curr.now in
     let next = c.args.next.now in
     let cm = c.args.curr_marks.now.at in
-    let nm = c.args.next-marks.now.at in
+    let nm = c.args.next_marks.now.at in
     let target = c.args.target_at in
     let cap = 50 * target in
     let i = c.loop-i.i in
-    let left = c.left-edge-left.result in
-    let right = c.right-edge-right.result in
+    let left = c.left_edge-left.result in
+    let right = c.right_edge-right.result in
     let e = right.next.at in
-    let left_is : left ≡ left_of cmp spans curr next bytes cm nm i = c.left-edge-left.ensures in
-    let short = subst (λ (n : ℕ). Shortest cmp spans curr next bytes cm nm n e) (ap (λ (x : Edge). x.next.at) left_is) c.right-edge-right.ensures.shortest in
-    let right_is : right ≡ right_of cmp spans curr next bytes cm nm e = c.right-edge-right.ensures.edge in
-    let test : c.is-allowed.result ≡ allowed cap (left_of cmp spans curr next bytes cm nm i) (right_of cmp spans curr next bytes cm nm e) =
-    c.is-allowed.ensures ∙ ap (λ x. allowed cap x right) left_is ∙ ap (allowed cap (left_of cmp spans curr next bytes cm nm i)) right_is in (
-      left_next laws spans curr next c.requires.next-sorted bytes cm nm i left left_is,
+    let left_is : left ≡ left_of cmp spans curr next bytes cm nm i = c.left_edge-left.ensures in
+    let short = subst (λ (n : ℕ). Shortest cmp spans curr next bytes cm nm n e) (ap (λ (x : Edge). x.next.at) left_is) c.right_edge-right.ensures.shortest in
+    let right_is : right ≡ right_of cmp spans curr next bytes cm nm e = c.right_edge-right.ensures.edge in
+    let test : c.is_allowed.result ≡ allowed cap (left_of cmp spans curr next bytes cm nm i) (right_of cmp spans curr next bytes cm nm e) =
+    c.is_allowed.ensures ∙ ap (λ x. allowed cap x right) left_is ∙ ap (allowed cap (left_of cmp spans curr next bytes cm nm i)) right_is in (
+      left_next laws spans curr next c.requires.next_sorted bytes cm nm i left left_is,
       right_is,
-      light_next laws spans curr next c.requires.next-sorted bytes cm nm i e short.lights,
-      elim c.if-is-allowed.branch [
-        | then-is-allowed w ↦
-            let found : w.merge-between.result ≡ merged (left_of cmp spans curr next bytes cm nm i) (right_of cmp spans curr next bytes cm nm e) =
-            w.merge-between.ensures ∙ ap (λ x. merged x right) left_is ∙ ap (merged (left_of cmp spans curr next bytes cm nm i)) right_is in
+      light_next laws spans curr next c.requires.next_sorted bytes cm nm i e short.lights,
+      elim c.if-is_allowed.branch [
+        | then-is_allowed w ↦
+            let found : w.merge_between.result ≡ merged (left_of cmp spans curr next bytes cm nm i) (right_of cmp spans curr next bytes cm nm e) =
+            w.merge_between.ensures ∙ ap (λ x. merged x right) left_is ∙ ap (merged (left_of cmp spans curr next bytes cm nm i)) right_is in
             λ hs m n. rw (w.best-is ∙ w.sooner-best.ensures ∙ ap (sooner c.loop-i.best) found)
-            (turn_finds laws spans curr next c.requires.curr-sorted c.requires.next-sorted bytes named hs target cm nm m n i e short c.loop-i.best (c.loop-i.invariant.3 hs m n) (sym test ∙ w.if-is-allowed.true))
-        | else-is-allowed w ↦
+            (turn_finds laws spans curr next c.requires.curr_sorted c.requires.next_sorted bytes named hs target cm nm m n i e short c.loop-i.best (c.loop-i.invariant.3 hs m n) (sym test ∙ w.if-is_allowed.true))
+        | else-is_allowed w ↦
             λ hs m n. rw w.best-is
-            (turn_bars laws spans curr next c.requires.curr-sorted c.requires.next-sorted bytes named hs target cm nm m n i e short c.loop-i.best (c.loop-i.invariant.3 hs m n) (sym test ∙ w.if-is-allowed.false))
+            (turn_bars laws spans curr next c.requires.curr_sorted c.requires.next_sorted bytes named hs target cm nm m n i e short c.loop-i.best (c.loop-i.invariant.3 hs m n) (sym test ∙ w.if-is_allowed.false))
       ],
     )
 

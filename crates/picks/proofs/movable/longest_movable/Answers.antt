@@ -21,10 +21,10 @@ loop-i-preserved g c =
     let t = c.index-curr-i.result in
     let h : i < length curr = c.loop-i-test.true in
     let k : i < length marks = search rules in
-    let from_is : c.partition-point-before.result ≡ from_at cmp spans curr next i =
-    place_found laws spans Min Max Before next curr i t c.key-range-range.result.now c.partition-point-before.result h c.index-curr-i.is c.key-range-range.ensures c.partition-point-before.ensures.count in
-    let to_is : c.partition-point-upto.result ≡ to_at cmp spans curr next i =
-    place_found laws spans Max Min UpTo next curr i t c.key-range-range.result.now c.partition-point-upto.result h c.index-curr-i.is c.key-range-range.ensures c.partition-point-upto.ensures.count in
+    let from_is : c.partition_point-before.result ≡ from_at cmp spans curr next i =
+    place_found laws spans Min Max Before next curr i t c.key_range-range.result.now c.partition_point-before.result h c.index-curr-i.is c.key_range-range.ensures c.partition_point-before.ensures.count in
+    let to_is : c.partition_point-upto.result ≡ to_at cmp spans curr next i =
+    place_found laws spans Max Min UpTo next curr i t c.key_range-range.result.now c.partition_point-upto.result h c.index-curr-i.is c.key_range-range.ensures c.partition_point-upto.ensures.count in
     let old = c.loop-i.invariant.0 in
     let best = c.loop-i.invariant.1 in
     let A = from_at cmp spans curr next i in
@@ -41,27 +41,27 @@ loop-i-preserved g c =
             | inl e ↦ inl (omega (arith, count_by_more_yes (λ m. m) marks i false k e))
             | inr e ↦ inr (omega (arith, from_is, to_is, e))
           ] in
-          let new = turn_stops laws spans curr next c.requires.curr-sorted c.requires.next-sorted marks i c.loop-i.from c.loop-i.gap old why c.if-gap-before.gap under in
+          let new = turn_stops laws spans curr next c.requires.curr_sorted c.requires.next_sorted marks i c.loop-i.from c.loop-i.gap old why c.if-gap-before.gap under in
           rw w.from-is (rw w.best-is (
             new,
-            λ hs m. turn_keeps laws spans curr next c.requires.curr-sorted c.requires.next-sorted marks named hs m i h (i + 1) c.if-gap-before.gap new c.loop-i.best (best hs m) (omega arith),
+            λ hs m. turn_keeps laws spans curr next c.requires.curr_sorted c.requires.next_sorted marks named hs m i h (i + 1) c.if-gap-before.gap new c.loop-i.best (best hs m) (omega arith),
           ))
       | else-before-upto+then-best-i w ↦
           let free = count_by_more_no (λ m. m) marks i false k w.if-before-upto.false.0 in
           let clear : to_at cmp spans curr next i ≤ A = omega (arith, from_is, to_is, w.if-before-upto.false.1) in
-          let new = turn_runs laws spans curr next c.requires.curr-sorted c.requires.next-sorted marks i c.loop-i.from c.loop-i.gap old (omega (arith, free)) clear c.if-gap-before.from c.if-gap-before.gap way in
+          let new = turn_runs laws spans curr next c.requires.curr_sorted c.requires.next_sorted marks i c.loop-i.from c.loop-i.gap old (omega (arith, free)) clear c.if-gap-before.from c.if-gap-before.gap way in
           let low : c.if-gap-before.from ≤ i = elim way [ inl x ↦ omega (arith, x.1.0) | inr x ↦ omega (arith, x.1.0, old.low) ] in
           rw w.from-is (rw w.best-is (
             new,
-            λ hs m. turn_takes laws spans curr next c.requires.curr-sorted c.requires.next-sorted marks named hs m i h c.if-gap-before.from c.if-gap-before.gap new c.loop-i.best (best hs m) low w.if-best-i.true,
+            λ hs m. turn_takes laws spans curr next c.requires.curr_sorted c.requires.next_sorted marks named hs m i h c.if-gap-before.from c.if-gap-before.gap new c.loop-i.best (best hs m) low w.if-best-i.true,
           ))
       | else-before-upto+else-best-i w ↦
           let free = count_by_more_no (λ m. m) marks i false k w.if-before-upto.false.0 in
           let clear : to_at cmp spans curr next i ≤ A = omega (arith, from_is, to_is, w.if-before-upto.false.1) in
-          let new = turn_runs laws spans curr next c.requires.curr-sorted c.requires.next-sorted marks i c.loop-i.from c.loop-i.gap old (omega (arith, free)) clear c.if-gap-before.from c.if-gap-before.gap way in
+          let new = turn_runs laws spans curr next c.requires.curr_sorted c.requires.next_sorted marks i c.loop-i.from c.loop-i.gap old (omega (arith, free)) clear c.if-gap-before.from c.if-gap-before.gap way in
           rw w.from-is (rw w.best-is (
             new,
-            λ hs m. turn_keeps laws spans curr next c.requires.curr-sorted c.requires.next-sorted marks named hs m i h c.if-gap-before.from c.if-gap-before.gap new c.loop-i.best (best hs m) w.if-best-i.false,
+            λ hs m. turn_keeps laws spans curr next c.requires.curr_sorted c.requires.next_sorted marks named hs m i h c.if-gap-before.from c.if-gap-before.gap new c.loop-i.best (best hs m) w.if-best-i.false,
           ))
     ]
 

@@ -5,23 +5,23 @@ use Rattle.picks.proofs.pick.pick_minimal_compaction.Goals as goal
 
 pub returns-in-Some : goal.returns-in-Some
 returns-in-Some g c =
-    let hs = hidden c.args.hidden-set.now in
+    let hs = hidden c.args.hidden_set.now in
     let t =
-    told_move g.Key.KeyKind.ranks g.T.Ranged.spans g.T.TableFile.bytes g.T.TableFile.named hs c.args.curr.now c.args.next.now c.args.target_at c.in-Some.window (c.in-Some.ensures hs c.new-curr-marks.ensures) in
+    told_move g.Key.KeyKind.ranks g.T.Ranged.spans g.T.TableFile.bytes g.T.TableFile.named hs c.args.curr.now c.args.next.now c.args.target_at c.in-Some.window (c.in-Some.ensures hs c.new-curr_marks.ensures) in
     record { picks = t.picks; law = t.law }
 
-pub returns-in-Some-cheapest-merge : goal.returns-in-Some-cheapest-merge
-returns-in-Some-cheapest-merge g c =
-    let hs = hidden c.args.hidden-set.now in
+pub returns-in-Some-cheapest_merge : goal.returns-in-Some-cheapest_merge
+returns-in-Some-cheapest_merge g c =
+    let hs = hidden c.args.hidden_set.now in
     let t =
-    told_rest g.Key.KeyKind.ranks g.T.Ranged.spans g.T.TableFile.bytes g.T.TableFile.named hs c.args.curr.now c.args.next.now c.args.target_at (Some c.in-Some-cheapest-merge.merging)
-    (c.in-default.ensures hs c.new-curr-marks.ensures) (c.in-Some-cheapest-merge.ensures hs c.new-curr-marks.ensures c.new-next-marks.ensures) in
+    told_rest g.Key.KeyKind.ranks g.T.Ranged.spans g.T.TableFile.bytes g.T.TableFile.named hs c.args.curr.now c.args.next.now c.args.target_at (Some c.in-Some-cheapest_merge.merging)
+    (c.in_default.ensures hs c.new-curr_marks.ensures) (c.in-Some-cheapest_merge.ensures hs c.new-curr_marks.ensures c.new-next_marks.ensures) in
     record { picks = t.picks; law = t.law }
 
 pub returns-in-None : goal.returns-in-None
 returns-in-None g c =
-    let hs = hidden c.args.hidden-set.now in
+    let hs = hidden c.args.hidden_set.now in
     let t =
     told_rest g.Key.KeyKind.ranks g.T.Ranged.spans g.T.TableFile.bytes g.T.TableFile.named hs c.args.curr.now c.args.next.now c.args.target_at None
-    (c.in-default.ensures hs c.new-curr-marks.ensures) (c.in-None.ensures hs c.new-curr-marks.ensures c.new-next-marks.ensures) in
+    (c.in_default.ensures hs c.new-curr_marks.ensures) (c.in-None.ensures hs c.new-curr_marks.ensures c.new-next_marks.ensures) in
     record { picks = t.picks; law = t.law }

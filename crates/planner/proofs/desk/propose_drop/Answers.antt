@@ -9,12 +9,12 @@ use Rattle.planner.proofs.desk.propose_drop.Goals as goal
 pub returns : goal.returns
 returns g c =
     let enough =
-    places_enough (λ t. within g.K.KeyKind.ranks c.args.bounds.now t.range) c.args.tables.now c.args.places (length c.as-mut-slice.result.now)
-    (c.as-mut-slice.ensures.len ∙ c.in-ok-ids.ensures.len ∙ c.min.ensures) in
-    IfOk-weaker c.answer-drop.result _ _
+    places_enough (λ t. within g.K.KeyKind.ranks c.args.bounds.now t.range) c.args.tables.now c.args.places (length c.as_mut_slice.result.now)
+    (c.as_mut_slice.ensures.len ∙ c.in_ok-ids.ensures.len ∙ c.min.ensures) in
+    IfOk-weaker c.answer_drop.result _ _
     (λ _ e. (
       e.0,
       e.1,
       subst (λ r. NamingLine r (numbers_of (filter (λ t. within g.K.KeyKind.ranks c.args.bounds.now t.range) c.args.tables.now)) e.0) enough e.2,
     ))
-    c.answer-drop.ensures
+    c.answer_drop.ensures

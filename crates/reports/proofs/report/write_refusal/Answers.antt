@@ -5,9 +5,9 @@ use Rattle.reports.proofs.report.write_refusal.Goals as goal
 
 pub returns : goal.returns
 returns c =
-    IfOk-weaker c.write-refused.result _ _
+    IfOk-weaker c.write_refused.result _ _
     (λ _ e. (
       c.words.result.now,
       refused_whole (string_bytes c.args.out.now) _ c.args.refusal c.number.result c.layer.result c.letter-letter.result c.place.result c.words.result.now c.number.ensures c.layer.ensures c.letter-letter.ensures c.place.ensures e,
     ))
-    c.write-refused.ensures
+    c.write_refused.ensures

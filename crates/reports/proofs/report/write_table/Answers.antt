@@ -4,12 +4,12 @@ use Rattle.reports.proofs.report.write_table.Goals as goal
 pub returns : goal.returns
 returns g c =
     table_whole _ _ _ _ _ _ _ _ _ _ _ _ _ _ _ _ _ _
-    c.in-ok-write-text.ensures
-    c.in-ok-write-number.ensures
-    c.in-ok-write-number-2.ensures
-    c.in-ok-write-number-3.ensures
-    c.in-ok-write-range.ensures
-    c.in-ok-write-number-4.ensures
-    c.in-ok-write-number-5.ensures
-    c.in-ok-write-number-6.ensures
-    c.in-ok-write-text-2.ensures
+    c.in_ok-write_text.ensures
+    c.in_ok-write_number.ensures
+    c.in_ok-write_number-2.ensures
+    c.in_ok-write_number-3.ensures
+    c.in_ok-write_range.ensures
+    c.in_ok-write_number-4.ensures
+    c.in_ok-write_number-5.ensures
+    c.in_ok-write_number-6.ensures
+    c.in_ok-write_text-2.ensures

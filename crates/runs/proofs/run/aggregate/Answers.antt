@@ -12,7 +12,7 @@ loop-i-preserved g c =
     let ts = c.args.tables.now in
     let i = c.loop-i.i in
     let left = drop_read ts i c.index-tables-i.result (omega arith) c.index-tables-i.is in
-    let here = c.widen-all.ensures ∙ ap (wider cmp c.loop-i.all) c.key-range-in-loop-i.ensures in
+    let here = c.widen-all.ensures ∙ ap (wider cmp c.loop-i.all) c.key_range-in-loop-i.ensures in
     c.loop-i.invariant ∙ ap (λ us. Some (widened cmp spans c.loop-i.all us)) left ∙ ap (λ r. Some (widened cmp spans r (drop (i + 1) ts))) (sym here)
 
 pub returns : goal.returns

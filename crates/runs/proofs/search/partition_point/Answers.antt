@@ -11,14 +11,14 @@ loop-low-init g c =
     let p = passed g.T.Key.KeyKind.ranks g.T.Ranged.spans c.args.end c.args.reach c.args.key.now in
     (omega arith, count_by-le-length p c.args.tables.now, omega arith)
 
-pub loop-low-preserved-then-has-passed : goal.loop-low-preserved-then-has-passed
-loop-low-preserved-then-has-passed g c =
+pub loop-low-preserved-then-has_passed : goal.loop-low-preserved-then-has_passed
+loop-low-preserved-then-has_passed g c =
     let falls = sorted_falls g.met.T.Key.KeyKind.total g.T.Ranged.spans c.args.end c.args.reach c.args.key.now c.args.tables.now c.requires in
-    let over = count_over_read _ c.args.tables.now falls _ c.index-tables-mid.result (omega arith) c.index-tables-mid.is (sym c.has-passed.ensures ∙ c.if-has-passed.true) in
+    let over = count_over_read _ c.args.tables.now falls _ c.index-tables-mid.result (omega arith) c.index-tables-mid.is (sym c.has_passed.ensures ∙ c.if-has_passed.true) in
     (omega arith, omega arith, omega arith)
 
 pub loop-low-preserved : goal.loop-low-preserved
 loop-low-preserved g c =
     let falls = sorted_falls g.met.T.Key.KeyKind.total g.T.Ranged.spans c.args.end c.args.reach c.args.key.now c.args.tables.now c.requires in
-    let under = count_under_read _ c.args.tables.now falls _ c.index-tables-mid.result (omega arith) c.index-tables-mid.is (sym c.has-passed.ensures ∙ c.if-has-passed.false) in
+    let under = count_under_read _ c.args.tables.now falls _ c.index-tables-mid.result (omega arith) c.index-tables-mid.is (sym c.has_passed.ensures ∙ c.if-has_passed.false) in
     (omega arith, omega arith, omega arith)

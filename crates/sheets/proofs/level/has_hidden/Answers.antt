@@ -6,13 +6,13 @@ use Rattle.sheets.specs.Members.{some}
 use Rattle.sheets.specs.Tables.{named}
 use Rattle.sheets.proofs.level.has_hidden.Goals as goal
 
-pub returns-then-is-hidden : goal.returns-then-is-hidden
-returns-then-is-hidden g c =
+pub returns-then-is_hidden : goal.returns-then-is_hidden
+returns-then-is_hidden g c =
     let hs = hidden c.args.set.now in
     let ts = c.args.tables.now in
     let i = c.loop-t.t-index in
     let left = drop_read ts i c.t-item.result (omega arith) c.t-item.is in
-    ap (λ b. cond b true (some (named hs) (drop (i + 1) ts))) c.if-is-hidden.ensures ∙ sym (ap (some (named hs)) left) ∙ c.loop-t.invariant
+    ap (λ b. cond b true (some (named hs) (drop (i + 1) ts))) c.if-is_hidden.ensures ∙ sym (ap (some (named hs)) left) ∙ c.loop-t.invariant
 
 pub loop-t-preserved : goal.loop-t-preserved
 loop-t-preserved g c =
@@ -20,7 +20,7 @@ loop-t-preserved g c =
     let ts = c.args.tables.now in
     let i = c.loop-t.t-index in
     let left = drop_read ts i c.t-item.result (omega arith) c.t-item.is in
-    ap (λ b. cond b true (some (named hs) (drop (i + 1) ts))) c.if-is-hidden.ensures ∙ sym (ap (some (named hs)) left) ∙ c.loop-t.invariant
+    ap (λ b. cond b true (some (named hs) (drop (i + 1) ts))) c.if-is_hidden.ensures ∙ sym (ap (some (named hs)) left) ∙ c.loop-t.invariant
 
 pub returns : goal.returns
 returns g c = sym (ap (some (named (hidden c.args.set.now))) (drop_all c.loop-t.t-index c.args.tables.now (omega arith))) ∙ c.loop-t.invariant

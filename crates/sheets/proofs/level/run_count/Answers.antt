@@ -5,8 +5,8 @@ use Rattle.sheets.proofs.level.run_count.Goals as goal
 pub returns-then-count-eq0 : goal.returns-then-count-eq0
 returns-then-count-eq0 g c = sym (runs_none c.args.tables.now c.level-level.result.tables.now c.level-level.ensures.tables c.if-count-eq0.true)
 
-pub offset-bounds-level-count : goal.offset-bounds-level-count
-offset-bounds-level-count g c =
+pub offset_bounds-level-count : goal.offset_bounds-level-count
+offset_bounds-level-count g c =
     let us = c.level-level.result.tables.now in
     let h : length us - 1 < length us = omega (arith, c.if-count-eq0.false) in
     search rules

@@ -4,8 +4,8 @@ use Rattle.std.proofs.lemmas.List.Sums.{sum_by_more, sum_by-take-le}
 use Rattle.sheets.specs.Level.{size_of}
 use Rattle.sheets.proofs.level.size.Goals as goal
 
-pub overflow-add-bytes : goal.overflow-add-bytes
-overflow-add-bytes g c =
+pub overflow_add-bytes : goal.overflow_add-bytes
+overflow_add-bytes g c =
     let ts = c.args.tables.now in
     let i = c.loop-t.t-index in
     let t = c.t-item.result in

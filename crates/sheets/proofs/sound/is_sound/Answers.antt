@@ -10,15 +10,15 @@ use Rattle.sheets.proofs.sound.is_sound.Goals as goal
 fitting : {K : Type 0} (cmp : K → K → Ordering) (room standing blobs : ℕ) (ts : List (Table K)) → room ≤ 1024 → standing ≤ room → blobs ≤ 2 ^ 53 → tables_ok cmp ts ≡ sheet_ok cmp room standing blobs ts
 fitting cmp room standing blobs ts a b c = rw (le-leb room 1024 a, le-leb standing room b, le-leb blobs (2 ^ 53) c)
 
-pub returns-then-sheet-gt-MOST-TABLES : goal.returns-then-sheet-gt-MOST-TABLES
-returns-then-sheet-gt-MOST-TABLES g c =
+pub returns-then-sheet-gt-MOST_TABLES : goal.returns-then-sheet-gt-MOST_TABLES
+returns-then-sheet-gt-MOST_TABLES g c =
     let cmp = g.K.KeyKind.ranks in
     let room = length c.args.sheet.now in
     let standing = c.args.standing in
     let blobs = c.args.blob_total in
     let ts = take standing c.args.sheet.now in
     let refused : false ≡ sheet_ok cmp room standing blobs ts =
-    elim c.then-sheet-gt-MOST-TABLES.either [
+    elim c.then-sheet-gt-MOST_TABLES.either [
       | inl a ↦ rw (lt-leb room 1024 a)
       | inr w ↦ elim w [ inl a ↦ rw (le-leb room 1024 a.0, lt-leb standing room a.1) | inr a ↦ rw (le-leb room 1024 a.0, le-leb standing room a.1, lt-leb blobs (2 ^ 53) a.2) ]
     ] in
@@ -31,5 +31,5 @@ returns g c =
     let standing = c.args.standing in
     let ts = take standing sheet in
     let same : standing - 0 ≡ standing = omega arith in
-    let test = c.are-sound.ensures ∙ ap (λ n. tables_ok cmp (take n sheet)) same ∙ fitting cmp (length sheet) standing c.args.blob_total ts (omega arith) (omega arith) (omega arith) in
+    let test = c.are_sound.ensures ∙ ap (λ n. tables_ok cmp (take n sheet)) same ∙ fitting cmp (length sheet) standing c.args.blob_total ts (omega arith) (omega arith) (omega arith) in
     record { test = test; words = Decides-at _ _ test (test_decides g.met.K.KeyKind.total (length sheet) standing c.args.blob_total ts) }

@@ -11,13 +11,13 @@ use Rattle.sheets.proofs.sound.numbers_differ.Goals as goal
 whole : (xs s ys : List ℕ) (n : ℕ) → ys ≡ laid xs (take n s) → n ≤ length xs → ys ≡ xs
 whole xs s ys n e h = e ∙ ap (λ l. xs ++ l) (drop_all (length xs) (take n s) (omega (arith, length-take n s))) ∙ append-nil xs
 
-pub neighbours-differ-requires : goal.neighbours-differ-requires
-neighbours-differ-requires g c = IsNonDecreasingBy-from_sort (λ x. x) c.sort-unstable.new.self c.sort-unstable.ensures.sorted
+pub neighbours_differ-requires : goal.neighbours_differ-requires
+neighbours_differ-requires g c = IsNonDecreasingBy-from_sort (λ x. x) c.sort_unstable.new.self c.sort_unstable.ensures.sorted
 
 pub returns : goal.returns
 returns g c =
     let ts = c.args.tables.now in
     let ns = numbers_of ts in
-    let ids = c.list-ids.new.ids in
-    let listed : ids ≡ ns = whole ns _ ids (length ts - 0) c.list-ids.ensures (omega (arith, length-map ts (λ t. t.number))) in
-    c.neighbours-differ.ensures ∙ distinct_shuffled ids c.sort-unstable.new.self c.sort-unstable.ensures.permutation ∙ ap distinct listed
+    let ids = c.list_ids.new.ids in
+    let listed : ids ≡ ns = whole ns _ ids (length ts - 0) c.list_ids.ensures (omega (arith, length-map ts (λ t. t.number))) in
+    c.neighbours_differ.ensures ∙ distinct_shuffled ids c.sort_unstable.new.self c.sort_unstable.ensures.permutation ∙ ap distinct listed

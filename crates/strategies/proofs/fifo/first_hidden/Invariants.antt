@@ -4,4 +4,4 @@ use Rattle.strategies.proofs.Searching.{Searching}
 use Rattle.strategies.proofs.fifo.first_hidden.Given as goal
 
 abbrev pub invariant-loop-i : goal.invariant-loop-i
-invariant-loop-i g l = Searching (hidden_first (hidden l.hidden-set)) l.tables l.i
+invariant-loop-i g l = Searching (hidden_first (hidden l.hidden_set)) l.tables l.i

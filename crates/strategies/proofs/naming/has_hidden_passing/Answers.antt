@@ -9,18 +9,18 @@ use Rattle.strategies.proofs.naming.has_hidden_passing.Goals as goal
 pub loop-i-init : goal.loop-i-init
 loop-i-init g c = search_all _ c.args.tables.now
 
-pub returns-then-is-hidden : goal.returns-then-is-hidden
-returns-then-is-hidden g c =
-    let p : Table g.row.K.Denot → Bool = λ t. g.P.Picks.passes c.args.test.now t && named (hidden c.args.hidden-set.now) t in
+pub returns-then-is_hidden : goal.returns-then-is_hidden
+returns-then-is_hidden g c =
+    let p : Table g.row.K.Denot → Bool = λ t. g.P.Picks.passes c.args.test.now t && named (hidden c.args.hidden_set.now) t in
     search_found p c.args.tables.now c.loop-i.i c.index-tables-i.result (omega arith) c.index-tables-i.is c.loop-i.invariant
-    (and_from _ _ (sym c.if-picks.ensures) (sym c.if-is-hidden.ensures))
+    (and_from _ _ (sym c.if-picks.ensures) (sym c.if-is_hidden.ensures))
 
 pub loop-i-preserved : goal.loop-i-preserved
 loop-i-preserved g c =
-    let p : Table g.row.K.Denot → Bool = λ t. g.P.Picks.passes c.args.test.now t && named (hidden c.args.hidden-set.now) t in
+    let p : Table g.row.K.Denot → Bool = λ t. g.P.Picks.passes c.args.test.now t && named (hidden c.args.hidden_set.now) t in
     search_on p c.args.tables.now c.loop-i.i c.index-tables-i.result (omega arith) c.index-tables-i.is c.loop-i.invariant
     (elim c.else-picks.branch [
-      | goal.else-picks-via-then-picks+else-is-hidden w ↦ and_right _ _ (sym w.if-is-hidden.ensures)
+      | goal.else-picks-via-then-picks+else-is_hidden w ↦ and_right _ _ (sym w.if-is_hidden.ensures)
       | goal.else-picks-via-else-picks w ↦ and_left _ _ (sym w.if-picks.ensures)
     ])
 

@@ -16,11 +16,11 @@ room g c =
 pub bounds-ids-count : goal.bounds-ids-count
 bounds-ids-count g c = room g c
 
-pub offset-bounds-ids-count : goal.offset-bounds-ids-count
-offset-bounds-ids-count g c = let lt : c.loop-i.count < length c.loop-i.ids = room g c in search rules
+pub offset_bounds-ids-count : goal.offset_bounds-ids-count
+offset_bounds-ids-count g c = let lt : c.loop-i.count < length c.loop-i.ids = room g c in search rules
 
-pub overflow-add-count : goal.overflow-add-count
-overflow-add-count g c = let lt : c.loop-i.count < length c.loop-i.ids = room g c in search rules
+pub overflow_add-count : goal.overflow_add-count
+overflow_add-count g c = let lt : c.loop-i.count < length c.loop-i.ids = room g c in search rules
 
 pub loop-i-preserved : goal.loop-i-preserved
 loop-i-preserved g c =
@@ -34,8 +34,8 @@ loop-i-preserved g c =
       | else-picks w ↦ rw (w.ids-is, w.count_is, w.bytes_is) (write_not p ts c.args.ids.now c.loop-i.ids c.loop-i.count c.loop-i.bytes c.loop-i.i t (omega arith) c.index-tables-i.is c.loop-i.invariant (sym w.if-picks.ensures))
     ]
 
-pub overflow-add-bytes : goal.overflow-add-bytes
-overflow-add-bytes g c =
+pub overflow_add-bytes : goal.overflow_add-bytes
+overflow_add-bytes g c =
     let w = write_light (g.P.Picks.passes c.args.test.now) c.args.tables.now c.args.ids.now c.loop-i.ids c.loop-i.count c.loop-i.bytes c.loop-i.i
     c.index-tables-i.result (omega arith) c.index-tables-i.is c.loop-i.invariant (sym c.if-picks.ensures) in
     omega (arith, c.requires.light)

@@ -11,11 +11,11 @@ returns-then-left-table g c =
     weigh_over (g.P.Picks.passes c.args.test.now) c.args.tables.now c.loop-i.left c.loop-i.count c.loop-i.bytes c.loop-i.i
     c.index-tables-i.result (omega arith) c.index-tables-i.is c.loop-i.invariant (omega arith)
 
-pub overflow-add-count : goal.overflow-add-count
-overflow-add-count g c = omega (arith, c.loop-i.invariant.few)
+pub overflow_add-count : goal.overflow_add-count
+overflow_add-count g c = omega (arith, c.loop-i.invariant.few)
 
-pub overflow-add-bytes : goal.overflow-add-bytes
-overflow-add-bytes g c = omega (arith, c.loop-i.invariant.light)
+pub overflow_add-bytes : goal.overflow_add-bytes
+overflow_add-bytes g c = omega (arith, c.loop-i.invariant.light)
 
 pub loop-i-preserved : goal.loop-i-preserved
 loop-i-preserved g c =

@@ -5,7 +5,7 @@ use Rattle.strategies.specs.Fifo.{place_of, older, live}
 use Rattle.strategies.proofs.Places.{numbered, earlier_here, earlier_there, older_here}
 use Rattle.strategies.proofs.Taking.{Taking, take_yes, take_not, take_all, less_is, less_none}
 use Rattle.strategies.proofs.outgoing.older_weigh_less.Goals as goal
-use Rattle.strategies.proofs.outgoing.older_weigh_less.Goals.{then-t-table, else-t-table, then-is-live+then-is-older, else-is-live, else-is-live-via-then-is-live+else-is-older, else-is-live-via-else-is-live}
+use Rattle.strategies.proofs.outgoing.older_weigh_less.Goals.{then-t-table, else-t-table, then-is_live+then-is_older, else-is_live, else-is_live-via-then-is_live+else-is_older, else-is_live-via-else-is_live}
 
 pub returns-then-left-eq0 : goal.returns-then-left-eq0
 returns-then-left-eq0 g c =
@@ -27,15 +27,15 @@ loop-t-preserved g c =
     let is_older = older_here ts c.requires t i u inside c.t-item.is c.if-t-table.earlier early in
     let p : Table g.row.K.Denot → Bool = λ v. live c.args.settings.now.ttl_seconds c.args.clock v && older ts t v in (
       early,
-      elim c.if-is-live.branch [
-        | then-is-live+then-is-older w ↦
-            take_yes p ts c.args.excess c.loop-t.left i u inside c.t-item.is c.loop-t.invariant.1 w.saturating-sub.result c.if-is-live.left w.saturating-sub.ensures (w.left-is ∙ w.saturating-sub-left.ensures)
-            (and_from _ _ (sym w.if-is-live.ensures) (sym is_older ∙ sym w.if-is-older.ensures))
-        | else-is-live w ↦
-            take_not p ts c.args.excess c.loop-t.left i u inside c.t-item.is c.loop-t.invariant.1 c.if-is-live.left w.left-is
-            (elim w.else-is-live.branch [
-              | else-is-live-via-then-is-live+else-is-older v ↦ and_right _ _ (sym is_older ∙ sym v.if-is-older.ensures)
-              | else-is-live-via-else-is-live v ↦ and_left _ _ (sym v.if-is-live.ensures)
+      elim c.if-is_live.branch [
+        | then-is_live+then-is_older w ↦
+            take_yes p ts c.args.excess c.loop-t.left i u inside c.t-item.is c.loop-t.invariant.1 w.saturating_sub.result c.if-is_live.left w.saturating_sub.ensures (w.left-is ∙ w.saturating_sub-left.ensures)
+            (and_from _ _ (sym w.if-is_live.ensures) (sym is_older ∙ sym w.if-is_older.ensures))
+        | else-is_live w ↦
+            take_not p ts c.args.excess c.loop-t.left i u inside c.t-item.is c.loop-t.invariant.1 c.if-is_live.left w.left-is
+            (elim w.else-is_live.branch [
+              | else-is_live-via-then-is_live+else-is_older v ↦ and_right _ _ (sym is_older ∙ sym v.if-is_older.ensures)
+              | else-is_live-via-else-is_live v ↦ and_left _ _ (sym v.if-is_live.ensures)
             ])
       ],
     )

@@ -7,10 +7,10 @@ use Rattle.texts.proofs.hex.write_hex.Goals as goal
 
 pub loop-i-preserved : goal.loop-i-preserved
 loop-i-preserved c =
-    let first = chosen _ _ _ _ c.push.ensures.bytes (ap is_ok c.in-ok-push.was) in
-    let next = chosen _ _ _ _ c.push-in-loop-i.ensures.bytes (ap is_ok c.in-ok-push-2.was) in
-    let high = c.digit-char.ensures in
-    let low = c.digit-char-in-loop-i.ensures in
+    let first = chosen _ _ _ _ c.push.ensures.bytes (ap is_ok c.in_ok-push.was) in
+    let next = chosen _ _ _ _ c.push-in-loop-i.ensures.bytes (ap is_ok c.in_ok-push-2.was) in
+    let high = c.digit_char.ensures in
+    let low = c.digit_char-in-loop-i.ensures in
     hexed_more _ _ _ _ _ _ _ _ c.args.bytes.now c.loop-i.i (omega arith)
     first (c.push.ensures.ascii high.ascii) high.value
     next (c.push-in-loop-i.ensures.ascii low.ascii) low.value

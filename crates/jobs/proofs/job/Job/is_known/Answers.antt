@@ -11,9 +11,9 @@ known_as (Move level) ns n h = refl
 known_as (Merge level) ns n h = refl
 known_as Drop ns n h = refl
 
-pub returns-in-default : goal.returns-in-default
-returns-in-default c =
+pub returns-in_default : goal.returns-in_default
+returns-in_default c =
     let job = c.args.self.now in
     let n = c.args.number in
     let same : job.count - 0 ≡ job.count = omega arith in
-    ap (λ m. eqb m n) (c.smallest.ensures ∙ ap (λ k. job_number (take k job.numbers)) same) ∙ known_as job.state (take job.count job.numbers) n c.in-default.not-Free
+    ap (λ m. eqb m n) (c.smallest.ensures ∙ ap (λ k. job_number (take k job.numbers)) same) ∙ known_as job.state (take job.count job.numbers) n c.in_default.not-Free

@@ -6,4 +6,4 @@ use Rattle.jobs.proofs.job.Job.start.Goals as goal
 pub returns : goal.returns
 returns c =
     ap (slot_as c.args.state)
-    (take_at c.copy-from-slice.new.self _ (length c.args.numbers.now) (ap length c.copy-from-slice.ensures.after) ∙ c.copy-from-slice.ensures.after)
+    (take_at c.copy_from_slice.new.self _ (length c.args.numbers.now) (ap length c.copy_from_slice.ensures.after) ∙ c.copy_from_slice.ensures.after)

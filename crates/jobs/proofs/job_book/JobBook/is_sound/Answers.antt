@@ -9,10 +9,10 @@ use Rattle.jobs.proofs.job_book.JobBook.is_sound.Goals as goal
 second_decides : (r a b b' : Bool) → r ≡ b → b ≡ b' → true ≡ a → r ≡ (a && b')
 second_decides r a b b' p q e = p ∙ (q ∙ ap (λ x. x && b') e)
 
-pub returns-then-is-sound : goal.returns-then-is-sound
-returns-then-is-sound g c =
+pub returns-then-is_sound : goal.returns-then-is_sound
+returns-then-is_sound g c =
     let book = c.args.self.now in
     let all : book.standing - 0 ≡ book.standing = omega arith in
-    second_decides _ _ _ _ c.are-sound.ensures
+    second_decides _ _ _ _ c.are_sound.ensures
     (ap (λ n. book_ok g.K.KeyKind.ranks (take n c.args.sheet.now) (hidden book.hidden) (running (map slot book.jobs))) all)
-    c.if-is-sound.ensures.test
+    c.if-is_sound.ensures.test

@@ -3,10 +3,10 @@ use Rattle.std.proofs.lemmas.Bool.{cond_above}
 use Rattle.keys.proofs.Spares.{front_is, rest_is_zero}
 use Rattle.keys.proofs.byte_key.ByteKey.new.Goals as goal
 
-pub invariant-of-result : goal.invariant-of-result
-invariant-of-result c = (omega arith, (rest_is_zero c.args.from.now c.copy-from-slice.new.self (length c.args.from.now - 0) c.copy-from-slice.ensures.after (omega arith), tt))
+pub invariant_of-result : goal.invariant_of-result
+invariant_of-result c = (omega arith, (rest_is_zero c.args.from.now c.copy_from_slice.new.self (length c.args.from.now - 0) c.copy_from_slice.ensures.after (omega arith), tt))
 
 pub returns : goal.returns
 returns c =
     cond_above 32 (length c.args.from.now) _ _ _ (omega arith)
-    (ap Ok (front_is c.args.from.now c.copy-from-slice.new.self (length c.args.from.now - 0) c.copy-from-slice.ensures.after (omega arith)))
+    (ap Ok (front_is c.args.from.now c.copy_from_slice.new.self (length c.args.from.now - 0) c.copy_from_slice.ensures.after (omega arith)))

@@ -4,15 +4,15 @@ use Rattle.leveled.specs.Survey.{set_to, standing, hides}
 use Rattle.leveled.proofs.Overlapped.{meets_none, meets_cut}
 use Rattle.leveled.proofs.survey.Survey.get_overlapping.Goals as goal
 
-pub returns-in-default : goal.returns-in-default
-returns-in-default g c =
+pub returns-in_default : goal.returns-in_default
+returns-in_default g c =
     let v = c.args.self.now in
-    meets_none g.K.KeyKind.ranks (set_to v) (standing v) (hides v) c.args.n (c.in-default.ensures ∙ ap (span_of g.K.KeyKind.ranks (λ t. t.range)) c.tables_of.ensures.tables)
+    meets_none g.K.KeyKind.ranks (set_to v) (standing v) (hides v) c.args.n (c.in_default.ensures ∙ ap (span_of g.K.KeyKind.ranks (λ t. t.range)) c.tables_of.ensures.tables)
 
 pub returns : goal.returns
 returns g c =
     let v = c.args.self.now in
-    meets_cut g.K.KeyKind.ranks (set_to v) (standing v) (hides v) c.args.n g.met.K.KeyKind.total c.in-Some.span c.tables-of-run.result.now
-    c.partition-point-place.result c.partition-point-end.result c.max.result
-    (c.in-Some.ensures ∙ ap (span_of g.K.KeyKind.ranks (λ t. t.range)) c.tables_of.ensures.tables) c.tables-of-run.ensures.tables (c.tables-of-run.ensures.run c.requires.deeper)
-    c.partition-point-place.ensures.count c.partition-point-end.ensures.count c.max.ensures
+    meets_cut g.K.KeyKind.ranks (set_to v) (standing v) (hides v) c.args.n g.met.K.KeyKind.total c.in-Some.span c.tables_of-run.result.now
+    c.partition_point-place.result c.partition_point-end.result c.max.result
+    (c.in-Some.ensures ∙ ap (span_of g.K.KeyKind.ranks (λ t. t.range)) c.tables_of.ensures.tables) c.tables_of-run.ensures.tables (c.tables_of-run.ensures.run c.requires.deeper)
+    c.partition_point-place.ensures.count c.partition_point-end.ensures.count c.max.ensures

@@ -13,9 +13,9 @@ input-input-requires g c =
     let ts = standing v in
     let l = c.args.first in
     let xs = c.tables_of.result.now in
-    let ys = c.get-overlapping-overlapping.result.now in
+    let ys = c.get_overlapping-overlapping.result.now in
     let p = zero_and g.K.KeyKind.ranks (set_to v) ts (hides v) l in
-    let is = zero_named laws (set_to v) ts (hides v) c.requires.surveyed.sound l c.requires.within.0 xs ys c.tables_of.ensures.tables c.get-overlapping-overlapping.ensures in
+    let is = zero_named laws (set_to v) ts (hides v) c.requires.surveyed.sound l c.requires.within.0 xs ys c.tables_of.ensures.tables c.get_overlapping-overlapping.ensures in
     record {
       small = omega (arith, both_light p ts xs ys is, small_of laws ts c.requires.surveyed.sound);
       room = omega (arith, both_few p ts xs ys is, c.requires.room);
@@ -30,10 +30,10 @@ returns-then-overlapping-eq0 g c =
     let hs = hides v in
     let l = c.args.first in
     let xs = c.tables_of.result.now in
-    let ys = c.get-overlapping-overlapping.result.now in
-    let is = zero_named g.met.K.KeyKind.total s ts hs c.requires.surveyed.sound l c.requires.within.0 xs ys c.tables_of.ensures.tables c.get-overlapping-overlapping.ensures in
-    let free = sym c.is-busy.ensures ∙ c.if-is-busy.false in
-    gives_by _ _ (won_move cmp s ts hs l free ys c.get-overlapping-overlapping.ensures (sym c.requires.surveyed.runs_are ∙ c.if-self-eq1.true) c.if-overlapping-eq0.true)
+    let ys = c.get_overlapping-overlapping.result.now in
+    let is = zero_named g.met.K.KeyKind.total s ts hs c.requires.surveyed.sound l c.requires.within.0 xs ys c.tables_of.ensures.tables c.get_overlapping-overlapping.ensures in
+    let free = sym c.is_busy.ensures ∙ c.if-is_busy.false in
+    gives_by _ _ (won_move cmp s ts hs l free ys c.get_overlapping-overlapping.ensures (sym c.requires.surveyed.runs_are ∙ c.if-self-eq1.true) c.if-overlapping-eq0.true)
     (moves (zero_and cmp s ts hs l) ts (xs ++ ys) is l 1 s.target_size c.input-input.result c.input-input.ensures.input c.args.ids.now c.input-input.new.ids c.input-input.ensures.ids)
 
 pub returns-else-self-eq1 : goal.returns-else-self-eq1
@@ -45,10 +45,10 @@ returns-else-self-eq1 g c =
     let hs = hides v in
     let l = c.args.first in
     let xs = c.tables_of.result.now in
-    let ys = c.get-overlapping-overlapping.result.now in
-    let met_is = c.get-overlapping-overlapping.ensures in
+    let ys = c.get_overlapping-overlapping.result.now in
+    let met_is = c.get_overlapping-overlapping.ensures in
     let is = zero_named g.met.K.KeyKind.total s ts hs c.requires.surveyed.sound l c.requires.within.0 xs ys c.tables_of.ensures.tables met_is in
-    let free = sym c.is-busy.ensures ∙ c.if-is-busy.false in
+    let free = sym c.is_busy.ensures ∙ c.if-is_busy.false in
     let here = merges (zero_and cmp s ts hs l) ts (xs ++ ys) is l 1 s.target_size c.input-input.result c.input-input.ensures.input c.args.ids.now c.input-input.new.ids c.input-input.ensures.ids in
     elim c.else-self-eq1.either [
       | inl h ↦ gives_by _ _ (won_met cmp s ts hs l free ys met_is h.1) here

@@ -6,8 +6,8 @@ use Rattle.leveled.proofs.Answered.{gives_by}
 use Rattle.leveled.proofs.Scored.{wins_between, won_zero, won_deeper}
 use Rattle.leveled.proofs.survey.Survey.merge_fullest.Goals as goal
 
-pub overflow-cast-n : goal.overflow-cast-n
-overflow-cast-n g c =
+pub overflow_cast-n : goal.overflow_cast-n
+overflow_cast-n g c =
     let v = c.args.self.now in
     let n = c.in-Some.n in
     let wins : Some n ≡ chosen (scores (set_to v) (standing v) (hides v) c.args.first) = c.in-Some.ensures.value ∙ ap chosen c.scores-scores.ensures in
@@ -26,7 +26,7 @@ pub returns-then-n-eq0 : goal.returns-then-n-eq0
 returns-then-n-eq0 g c =
     let v = c.args.self.now in
     let wins = c.in-Some.ensures.value ∙ ap chosen c.scores-scores.ensures in
-    gives_by _ _ (won_zero g.K.KeyKind.ranks (set_to v) (standing v) (hides v) c.args.first c.in-Some.n wins c.if-n-eq0.true) c.merge-first.ensures
+    gives_by _ _ (won_zero g.K.KeyKind.ranks (set_to v) (standing v) (hides v) c.args.first c.in-Some.n wins c.if-n-eq0.true) c.merge_first.ensures
 
 pub returns-else-n-eq0 : goal.returns-else-n-eq0
 returns-else-n-eq0 g c =

@@ -5,6 +5,6 @@ use Rattle.leveled.proofs.survey.Survey.move_first.Goals as goal
 
 pub input-requires : goal.input-requires
 input-requires g c = record {
-  small = omega (arith, c.tables-of-tables.ensures.small);
-  room = omega (arith, ap length c.tables-of-tables.ensures.tables, count_less (standing c.args.self.now) 0, c.requires.room);
+  small = omega (arith, c.tables_of-tables.ensures.small);
+  room = omega (arith, ap length c.tables_of-tables.ensures.tables, count_less (standing c.args.self.now) 0, c.requires.room);
 }

@@ -17,4 +17,4 @@ returns g c =
     let v = c.args.self.now in
     let l = c.args.first in
     let some = filled_yes (hides v) (standing v) l c.level-level.result c.level-level.ensures (omega arith) in
-    c.are-overfull.ensures ∙ sym (falls_yes (set_to v) (standing v) (hides v) l c.requires.first (omega (arith, c.requires.within)) some)
+    c.are_overfull.ensures ∙ sym (falls_yes (set_to v) (standing v) (hides v) l c.requires.first (omega (arith, c.requires.within)) some)

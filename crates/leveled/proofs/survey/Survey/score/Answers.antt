@@ -8,8 +8,8 @@ use Rattle.leveled.proofs.Scored.{count_less, free_less, score_zero, score_in, s
 use Rattle.leveled.proofs.Surveys.{small_of}
 use Rattle.leveled.proofs.survey.Survey.score.Goals as goal
 
-pub first-level-score-requires : goal.first-level-score-requires
-first-level-score-requires g c = let v = c.args.self.now in omega (arith, ap (λ r. r.table_count) c.level.ensures, count_less (standing v) 0, c.requires.surveyed.few)
+pub first_level_score-requires : goal.first_level_score-requires
+first_level_score-requires g c = let v = c.args.self.now in omega (arith, ap (λ r. r.table_count) c.level.ensures, count_less (standing v) 0, c.requires.surveyed.few)
 
 pub returns-then-n-eq0 : goal.returns-then-n-eq0
 returns-then-n-eq0 g c =
@@ -25,8 +25,8 @@ returns-then-n-first g c =
       | inr h ↦ none_is ∙ sym (score_high (set_to v) (standing v) (hides v) c.args.first c.args.n c.if-n-eq0.false h.1)
     ]
 
-pub level-score-requires : goal.level-score-requires
-level-score-requires g c =
+pub level_score-requires : goal.level_score-requires
+level_score-requires g c =
     let ts = standing c.args.self.now in
     omega (arith, ap (λ r. r.free_bytes) c.level-2.ensures, free_less ts c.args.n (hides c.args.self.now), small_of g.met.K.KeyKind.total ts c.requires.surveyed.sound)
 
@@ -34,10 +34,10 @@ pub returns : goal.returns
 returns g c =
     let v = c.args.self.now in
     let n = c.args.n in
-    let next = c.level-next-is-empty.result in
-    let target = c.level-target-size-target-size.result in
+    let next = c.level-next_is_empty.result in
+    let target = c.level_target_size-target_size.result in
     let free = free_of (hides v) (standing v) n in
-    let empty : eqb next.table_count 0 ≡ not (filled (standing v) (suc n)) = empty_test (hides v) (standing v) (n + 1) next c.level-next-is-empty.ensures ∙ ap (λ k. not (filled (standing v) k)) (add-one n) in
+    let empty : eqb next.table_count 0 ≡ not (filled (standing v) (suc n)) = empty_test (hides v) (standing v) (n + 1) next c.level-next_is_empty.ensures ∙ ap (λ k. not (filled (standing v) k)) (add-one n) in
     c.level_score.ensures.value ∙ ap (λ r. level_score r.free_bytes target (eqb next.table_count 0)) c.level-2.ensures
-    ∙ ap (λ b. level_score free target b) empty ∙ ap (λ t. level_score free t (not (filled (standing v) (suc n)))) c.level-target-size-target-size.ensures.value
+    ∙ ap (λ b. level_score free target b) empty ∙ ap (λ t. level_score free t (not (filled (standing v) (suc n)))) c.level_target_size-target_size.ensures.value
     ∙ sym (score_in (set_to v) (standing v) (hides v) c.args.first n c.if-n-eq0.false (omega arith) (omega arith))

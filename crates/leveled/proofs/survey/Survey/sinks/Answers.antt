@@ -8,11 +8,11 @@ returns-then-self-ne1 g c =
     let v = c.args.self.now in
     elim c.then-self-ne1.either [
       | inl h ↦ sym (sinks_runs g.K.KeyKind.ranks (set_to v) (standing v) (hides v) (λ e. h (c.requires.runs_are ∙ e)))
-      | inr h ↦ sym (sinks_filled g.K.KeyKind.ranks (set_to v) (standing v) (hides v) (λ e. h.1 (c.first-non-empty-level-first.ensures.value ∙ e)))
+      | inr h ↦ sym (sinks_filled g.K.KeyKind.ranks (set_to v) (standing v) (hides v) (λ e. h.1 (c.first_non_empty_level-first.ensures.value ∙ e)))
     ]
 
 pub returns : goal.returns
 returns g c =
     let v = c.args.self.now in
-    ap not c.last-level-overlaps.ensures
-    ∙ sym (sinks_rest g.K.KeyKind.ranks (set_to v) (standing v) (hides v) (sym c.requires.runs_are ∙ omega arith) (sym c.first-non-empty-level-first.ensures.value ∙ omega arith))
+    ap not c.last_level_overlaps.ensures
+    ∙ sym (sinks_rest g.K.KeyKind.ranks (set_to v) (standing v) (hides v) (sym c.requires.runs_are ∙ omega arith) (sym c.first_non_empty_level-first.ensures.value ∙ omega arith))

@@ -8,4 +8,4 @@ returns c =
     let s = c.args.self in
     let rs = c.args.policy.now in
     ap (λ (xs : List Float). record { target_size = s.target_size; threshold = s.threshold; ratios = xs; given = length rs })
-    (kept rs c.copy-from-slice.new.self c.min-kept.result c.min-kept.ensures c.copy-from-slice.ensures.after)
+    (kept rs c.copy_from_slice.new.self c.min-kept.result c.min-kept.ensures c.copy_from_slice.ensures.after)

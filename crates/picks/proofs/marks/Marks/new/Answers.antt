@@ -6,24 +6,24 @@ use Rattle.picks.proofs.marks.Marks.new.Goals as goal
 
 pub loop-i-preserved : goal.loop-i-preserved
 loop-i-preserved g c =
-    let hs = hidden c.args.hidden-set.now in
+    let hs = hidden c.args.hidden_set.now in
     let f : g.row.T.Denot → Bool = λ t. memb (g.T.TableFile.named t) hs in
     let ts = c.args.run.now in
     let i = c.loop-i.i in
     let t = c.index-run-i.result in
     let h : i < length ts = c.loop-i-test.true in
     let room : i < length c.loop-i.at = omega arith in
-    let mark : c.is-hidden.result ≡ f (get_or ts i t) = c.is-hidden.ensures ∙ ap (λ n. memb n hs) c.id.ensures ∙ ap f c.index-run-i.is in (
-      length-set c.loop-i.at i c.is-hidden.result ∙ c.loop-i.invariant.0,
-      take_more_set c.loop-i.at i c.is-hidden.result room
-          ∙ ap (λ ms. ms ++ c.is-hidden.result ∷ []) c.loop-i.invariant.1
+    let mark : c.is_hidden.result ≡ f (get_or ts i t) = c.is_hidden.ensures ∙ ap (λ n. memb n hs) c.id.ensures ∙ ap f c.index-run-i.is in (
+      length-set c.loop-i.at i c.is_hidden.result ∙ c.loop-i.invariant.0,
+      take_more_set c.loop-i.at i c.is_hidden.result room
+          ∙ ap (λ ms. ms ++ c.is_hidden.result ∷ []) c.loop-i.invariant.1
           ∙ ap (λ m. map f (take i ts) ++ m ∷ []) mark
           ∙ sym (map_more f ts i t h),
     )
 
 pub returns : goal.returns
 returns g c =
-    let f : g.row.T.Denot → Bool = λ t. memb (g.T.TableFile.named t) (hidden c.args.hidden-set.now) in
+    let f : g.row.T.Denot → Bool = λ t. memb (g.T.TableFile.named t) (hidden c.args.hidden_set.now) in
     let ts = c.args.run.now in
     let all : length ts ≡ c.loop-i.i = omega arith in
     ap (λ n. take n c.loop-i.at) all ∙ c.loop-i.invariant.1 ∙ ap (map f) (take_all c.loop-i.i ts (omega arith))

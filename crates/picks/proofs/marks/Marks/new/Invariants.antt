@@ -6,4 +6,4 @@ use Rattle.picks.proofs.marks.Marks.new.Given as goal
 abbrev pub invariant-loop-i : goal.invariant-loop-i
 invariant-loop-i g l =
     (length l.at ≡ 1024)
-    × (take l.i l.at ≡ map (λ t. memb (g.T.TableFile.named t) (hidden l.hidden-set)) (take l.i l.run))
+    × (take l.i l.at ≡ map (λ t. memb (g.T.TableFile.named t) (hidden l.hidden_set)) (take l.i l.run))

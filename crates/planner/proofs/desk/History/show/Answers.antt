@@ -7,10 +7,10 @@ use Rattle.planner.proofs.desk.History.show.Goals as goal
 
 pub returns : goal.returns
 returns g c =
-    IfOk-weaker c.write-text.result _ _
+    IfOk-weaker c.write_text.result _ _
     (λ _ e.
     three_parts (string_bytes c.args.out.now) _ _ _ (table_lines g.K.KeyText.spelt (vec_items c.args.self.now.tables)) (list_line (codes "hidden") []) (codes "end\n")
-    (c.in-ok-write-tables.ensures ∙ ap (λ ts. string_bytes c.args.out.now ++ table_lines g.K.KeyText.spelt ts) c.as-slice.ensures.value)
-    c.in-ok-write-list.ensures
+    (c.in_ok-write_tables.ensures ∙ ap (λ ts. string_bytes c.args.out.now ++ table_lines g.K.KeyText.spelt ts) c.as_slice.ensures.value)
+    c.in_ok-write_list.ensures
     e)
-    c.write-text.ensures
+    c.write_text.ensures

@@ -4,5 +4,5 @@ use Rattle.runs.proofs.run.Run.get_overlapping.Goals as goal
 
 pub returns : goal.returns
 returns g c =
-    is_overlapping g.met.T.Key.KeyKind.total g.T.Ranged.spans c.args.range.now c.args.self.tables.now (sym c.is-sorted.ensures ∙ c.if-not-is-sorted.false)
-    _ _ _ _ c.cut.ensures.place c.cut.ensures.tables c.partition-point-place.ensures.count c.partition-point-end.ensures.count
+    is_overlapping g.met.T.Key.KeyKind.total g.T.Ranged.spans c.args.range.now c.args.self.tables.now (sym c.is_sorted.ensures ∙ c.if-not-is_sorted.false)
+    _ _ _ _ c.cut.ensures.place c.cut.ensures.tables c.partition_point-place.ensures.count c.partition_point-end.ensures.count

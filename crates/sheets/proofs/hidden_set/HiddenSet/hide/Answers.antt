@@ -4,13 +4,13 @@ use Rattle.std.proofs.lemmas.List.{take_more_set, take-set-le, length-set, lengt
 use Rattle.sheets.specs.HiddenSet.{hidden, hiding}
 use Rattle.sheets.proofs.Hiding.{hiding_new, hiding_old, hiding_full}
 use Rattle.sheets.proofs.hidden_set.HiddenSet.hide.Goals as goal
-use Rattle.sheets.proofs.hidden_set.HiddenSet.hide.Goals.{then-not-is-hidden+else-self-ge1024, else-not-is-hidden}
+use Rattle.sheets.proofs.hidden_set.HiddenSet.hide.Goals.{then-not-is_hidden+else-self-ge1024, else-not-is_hidden}
 
 pub returns-then-self-ge1024 : goal.returns-then-self-ge1024
 returns-then-self-ge1024 c =
     let l : 1024 ≤ length (hidden c.loop-id.self) = rw (length-take-le c.loop-id.self.count c.loop-id.self.ids (omega arith)) (omega arith) in
     record {
-      answer = hiding_full _ (hidden c.loop-id.self) c.args.ids.now c.loop-id.id-index (omega arith) c.loop-id.invariant.0 (sym c.if-not-is-hidden.ensures) l;
+      answer = hiding_full _ (hidden c.loop-id.self) c.args.ids.now c.loop-id.id-index (omega arith) c.loop-id.invariant.0 (sym c.if-not-is_hidden.ensures) l;
       after = c.loop-id.invariant.1;
     }
 
@@ -21,18 +21,18 @@ loop-id-preserved c =
     let xs = c.args.ids.now in
     let i = c.loop-id.id-index in
     let h : i < length xs = omega arith in
-    elim c.if-not-is-hidden.branch [
-      | then-not-is-hidden+else-self-ge1024 w ↦
+    elim c.if-not-is_hidden.branch [
+      | then-not-is_hidden+else-self-ge1024 w ↦
           let room : n < length ids = omega arith in
           rw w.self-is (
-            c.loop-id.invariant.0 ∙ hiding_new (take n ids) xs i h (sym w.if-not-is-hidden.ensures) ∙ ap (λ hs. hiding hs (drop (i + 1) xs)) (sym (take_more_set ids n (get_or xs i 0) room)),
+            c.loop-id.invariant.0 ∙ hiding_new (take n ids) xs i h (sym w.if-not-is_hidden.ensures) ∙ ap (λ hs. hiding hs (drop (i + 1) xs)) (sym (take_more_set ids n (get_or xs i 0) room)),
             take-set-le c.args.self.now.count ids n (get_or xs i 0) c.loop-id.invariant.2 ∙ c.loop-id.invariant.1,
             omega arith,
             length-set ids n (get_or xs i 0) ∙ c.loop-id.invariant.3,
           )
-      | else-not-is-hidden w ↦
+      | else-not-is_hidden w ↦
           rw w.self-is (
-            c.loop-id.invariant.0 ∙ hiding_old (take n ids) xs i h (sym w.if-not-is-hidden.ensures),
+            c.loop-id.invariant.0 ∙ hiding_old (take n ids) xs i h (sym w.if-not-is_hidden.ensures),
             c.loop-id.invariant.1,
             c.loop-id.invariant.2,
             c.loop-id.invariant.3,

@@ -4,24 +4,24 @@ use Rattle.sheets.proofs.Levels.{level_less}
 use Rattle.strategies.specs.Fifo.{expired_first}
 use Rattle.strategies.proofs.Taking.{take_yes, take_not, take_all}
 use Rattle.strategies.proofs.fifo.FifoSettings.left_over.Goals as goal
-use Rattle.strategies.proofs.fifo.FifoSettings.left_over.Goals.{then-is-due, else-is-due}
+use Rattle.strategies.proofs.fifo.FifoSettings.left_over.Goals.{then-is_due, else-is_due}
 
 pub size-requires : goal.size-requires
 size-requires g c = omega (arith, ap size_of c.level.ensures.tables, level_less 0 c.args.tables.now, c.requires.light)
 
-pub overflow-add-left : goal.overflow-add-left
-overflow-add-left g c = omega (arith, c.size.ensures, ap size_of c.level.ensures.tables, level_less 0 c.args.tables.now, c.requires.light, c.requires.blob)
+pub overflow_add-left : goal.overflow_add-left
+overflow_add-left g c = omega (arith, c.size.ensures, ap size_of c.level.ensures.tables, level_less 0 c.args.tables.now, c.requires.light, c.requires.blob)
 
 pub loop-t-preserved : goal.loop-t-preserved
 loop-t-preserved g c =
     let p = expired_first {K = g.row.K.Denot} c.args.self.now.ttl_seconds c.args.clock in
     let ts = c.args.tables.now in
     let whole = size_of (level_of 0 ts) + c.args.blob_total in
-    elim c.if-is-due.branch [
-      | then-is-due w ↦
+    elim c.if-is_due.branch [
+      | then-is_due w ↦
           take_yes p ts whole c.loop-t.left c.loop-t.t-index c.t-item.result (omega arith) c.t-item.is c.loop-t.invariant
-          w.saturating-sub.result c.if-is-due.left w.saturating-sub.ensures (w.left-is ∙ w.saturating-sub-left.ensures) (sym w.if-is-due.ensures)
-      | else-is-due w ↦ take_not p ts whole c.loop-t.left c.loop-t.t-index c.t-item.result (omega arith) c.t-item.is c.loop-t.invariant c.if-is-due.left w.left-is (sym w.if-is-due.ensures)
+          w.saturating_sub.result c.if-is_due.left w.saturating_sub.ensures (w.left-is ∙ w.saturating_sub-left.ensures) (sym w.if-is_due.ensures)
+      | else-is_due w ↦ take_not p ts whole c.loop-t.left c.loop-t.t-index c.t-item.result (omega arith) c.t-item.is c.loop-t.invariant c.if-is_due.left w.left-is (sym w.if-is_due.ensures)
     ]
 
 pub returns : goal.returns

@@ -10,15 +10,15 @@ use Rattle.texts.proofs.key_text.ByteKeyKeyText.read_key.Goals as goal
 
 pub returns-in-Some : goal.returns-in-Some
 returns-in-Some c =
-    let hex = IfOk-at_ok (λ o. option_map vec_items o ≡ bytes_of c.args.word.now) c.in-ok-bytes.was c.read-hex.ensures in
+    let hex = IfOk-at_ok (λ o. option_map vec_items o ≡ bytes_of c.args.word.now) c.in_ok-bytes.was c.read_hex.ensures in
     record {
       bytes = vec_items c.in-Some.bytes;
-      whole = word_is_hex c.args.word.now (not_from_Decides _ c.eq.ensures c.if-eq.false) (sym c.is-empty.ensures ∙ c.if-is-empty.false) ∙ sym hex ∙ ap (option_map vec_items) c.in-Some.is;
-      is = subst (λ bs. made c.new-in-Some.result ≡ cond (ltb 32 (length bs)) (Err KeyTooLong) (Ok bs)) c.as-slice.ensures.value c.new-in-Some.ensures;
+      whole = word_is_hex c.args.word.now (not_from_Decides _ c.eq.ensures c.if-eq.false) (sym c.is_empty.ensures ∙ c.if-is_empty.false) ∙ sym hex ∙ ap (option_map vec_items) c.in-Some.is;
+      is = subst (λ bs. made c.new-in-Some.result ≡ cond (ltb 32 (length bs)) (Err KeyTooLong) (Ok bs)) c.as_slice.ensures.value c.new-in-Some.ensures;
     }
 
 pub returns-in-None : goal.returns-in-None
 returns-in-None c r word =
-    let hex = IfOk-at_ok (λ o. option_map vec_items o ≡ bytes_of c.args.word.now) c.in-ok-bytes.was c.read-hex.ensures in
-    let none = word_is_hex c.args.word.now (not_from_Decides _ c.eq.ensures c.if-eq.false) (sym c.is-empty.ensures ∙ c.if-is-empty.false) ∙ sym hex ∙ ap (option_map vec_items) c.in-None.is in
+    let hex = IfOk-at_ok (λ o. option_map vec_items o ≡ bytes_of c.args.word.now) c.in_ok-bytes.was c.read_hex.ensures in
+    let none = word_is_hex c.args.word.now (not_from_Decides _ c.eq.ensures c.if-eq.false) (sym c.is_empty.ensures ∙ c.if-is_empty.false) ∙ sym hex ∙ ap (option_map vec_items) c.in-None.is in
     unlike _ _ none word.whole

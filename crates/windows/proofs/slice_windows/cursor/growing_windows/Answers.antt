@@ -11,7 +11,7 @@ returns g c =
     let f = g.T.TableFile.bytes in
     let ts = c.args.tables.now in
     let n = length ts in
-    let small = (allowed f ts c.total.result c.in-ok-total.field-0 c.in-ok-total.was c.total.ensures).0 in
+    let small = (allowed f ts c.total.result c.in_ok-total.field-0 c.in_ok-total.was c.total.ensures).0 in
     let windows : standing Growing n c.longer.result ≡ growing n = c.longer.ensures.windows ∙ ap (growing_from n 1) (let q : n - 0 ≡ n = omega arith in q) in
     record {
       answer = opens f ts _ _ small windows;

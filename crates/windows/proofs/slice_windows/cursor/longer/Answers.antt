@@ -19,10 +19,10 @@ returns g c =
     let f = g.T.TableFile.bytes in
     let ts = c.args.tables.now in
     record {
-      windows = ap (standing Growing (length ts)) c.leftmost.ensures ∙ standing_growing (length ts) c.args.len c.saturating-add.result (omega arith);
-      stands = ap (stands (length ts)) c.leftmost.ensures ∙ stands_first (length ts) (c.args.len + 1) c.saturating-add.result (omega arith);
+      windows = ap (standing Growing (length ts)) c.leftmost.ensures ∙ standing_growing (length ts) c.args.len c.saturating_add.result (omega arith);
+      stands = ap (stands (length ts)) c.leftmost.ensures ∙ stands_first (length ts) (c.args.len + 1) c.saturating_add.result (omega arith);
       sums = λ small e.
           let more = sum_read f ts c.args.len c.index-tables-len.result (omega arith) c.index-tables-len.is in
           subst (RightNext f ts) (sym c.leftmost.ensures)
-          (right_first f ts (c.args.len + 1) c.saturating-add.result (omega (arith, more, sum_by-take-le f ts (c.args.len + 1), c.saturating-add.ensures, c.file-size.ensures)));
+          (right_first f ts (c.args.len + 1) c.saturating_add.result (omega (arith, more, sum_by-take-le f ts (c.args.len + 1), c.saturating_add.ensures, c.file_size.ensures)));
     }

@@ -11,11 +11,11 @@ returns g c =
     let f = g.T.TableFile.bytes in
     let ts = c.args.tables.now in
     record {
-      windows = ap (standing Shrinking (length ts)) c.leftmost.ensures ∙ standing_shrinking (length ts) (c.args.len - 1) c.saturating-sub.result (omega arith);
-      stands = ap (stands (length ts)) c.leftmost.ensures ∙ stands_first (length ts) (c.args.len - 1) c.saturating-sub.result (omega arith);
+      windows = ap (standing Shrinking (length ts)) c.leftmost.ensures ∙ standing_shrinking (length ts) (c.args.len - 1) c.saturating_sub.result (omega arith);
+      stands = ap (stands (length ts)) c.leftmost.ensures ∙ stands_first (length ts) (c.args.len - 1) c.saturating_sub.result (omega arith);
       sums = λ e.
           let more = sum_read f ts (c.args.len - 1) c.index-tables-len.result (omega arith) c.index-tables-len.is in
           let all = ap (λ k. sum_by f (take k ts)) (let q : c.args.len - 1 + 1 ≡ c.args.len = omega arith in q) in
           subst (RightNext f ts) (sym c.leftmost.ensures)
-          (right_first f ts (c.args.len - 1) c.saturating-sub.result (omega (arith, more, all, c.saturating-sub.ensures, c.file-size.ensures)));
+          (right_first f ts (c.args.len - 1) c.saturating_sub.result (omega (arith, more, all, c.saturating_sub.ensures, c.file_size.ensures)));
     }

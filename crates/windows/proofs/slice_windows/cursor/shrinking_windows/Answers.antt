@@ -13,8 +13,8 @@ returns g c =
     let f = g.T.TableFile.bytes in
     let ts = c.args.tables.now in
     let n = length ts in
-    let sum = c.in-ok-bytes.bytes in
-    let small = allowed f ts c.total.result sum c.in-ok-bytes.was c.total.ensures in
+    let sum = c.in_ok-bytes.bytes in
+    let small = allowed f ts c.total.result sum c.in_ok-bytes.was c.total.ensures in
     let windows : standing Shrinking n c.leftmost.result ≡ shrinking n = ap (standing Shrinking n) c.leftmost.ensures ∙ standing_shrinking n n sum (omega arith) in
     record {
       answer = opens f ts _ _ small.0 windows;

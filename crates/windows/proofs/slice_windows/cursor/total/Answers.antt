@@ -10,7 +10,7 @@ returns-then-size-sum g c =
     let f = g.T.TableFile.bytes in
     let ts = c.args.tables.now in
     let more = sum_read f ts c.loop-table.table-index c.table-item.result (omega arith) c.table-item.is in
-    let over : 2 ^ 53 < sum_by f ts = omega (arith, more, sum_by-take-le f ts (c.loop-table.table-index + 1), c.file-size-size.ensures) in
+    let over : 2 ^ 53 < sum_by f ts = omega (arith, more, sum_by-take-le f ts (c.loop-table.table-index + 1), c.file_size-size.ensures) in
     sym (cond-false _ _ _ (lt-leb (sum_by f ts) (2 ^ 53) over))
 
 pub loop-table-preserved : goal.loop-table-preserved
@@ -18,7 +18,7 @@ loop-table-preserved g c =
     let f = g.T.TableFile.bytes in
     let ts = c.args.tables.now in
     let more = sum_read f ts c.loop-table.table-index c.table-item.result (omega arith) c.table-item.is in
-    (omega (arith, more, c.file-size-size.ensures), omega arith)
+    (omega (arith, more, c.file_size-size.ensures), omega arith)
 
 pub returns : goal.returns
 returns g c =
