@@ -1,5 +1,5 @@
 -- On values that are equal but for keys that compare alike, every definition gives alike.
-use Rattle.std.proofs.Common.{◌≡◌, ℕ, zero, suc, ◌+◌, Bool, true, false, cond, not, ◌&&◌, List, [], ◌∷◌, ◌++◌, map, length, take, drop, sum_by, count_by, filter, Ordering, refl, ap, subst, arith}
+use Rattle.std.proofs.Common.{◌≡◌, ℕ, zero, suc, Bool, true, false, cond, not, List, ◌++◌, map, length, take, drop, sum_by, count_by, filter, Ordering, refl, ap, subst, arith}
 use Rattle.std.specs.Ordering.{is_lt}
 use Rattle.std.proofs.lemmas.List.Sums.{sum_by-cons}
 use Rattle.keys.specs.declared.key_range.KeyRange.{KeyRange}

@@ -1,14 +1,10 @@
 -- Run questions on tables that pair give alike: `S t u` says that a table of one run pairs with one of another, and so do their ranges.
-use Rattle.std.proofs.Common.{◌≡◌, ℕ, Bool, true, false, cond, List, [], ◌∷◌, Ok, Err, count_by, filter, Result, Ordering, refl, subst}
-use Rattle.std.specs.Ordering.{is_lt}
-use Rattle.refusals.specs.declared.refusal.Refusal.{Refusal}
-use Rattle.refusals.specs.declared.refusal.Refusal.TheVariants.{NotSound}
+use Rattle.std.proofs.Common.{◌≡◌, ℕ, List, Ok, Ordering, refl, subst}
 use Rattle.keys.specs.declared.key_range.KeyRange.{KeyRange}
-use Rattle.keys.specs.KeyRange.{meets, inside, wider}
 use Rattle.keys.specs.Pairing.{Both, nil, cons, CompareAlike, TwinRange}
 use Rattle.keys.proofs.Alike.{cond_alike, count_alike, kept_alike, lt_alike, meets_alike, inside_alike, wider_alike}
 use Rattle.runs.specs.Pairing.{TwinParts, granted, refused, TwinSpans, no_span, a_span}
-use Rattle.runs.specs.Run.{Part, apart, sorted, overlapping, contained, widened, span_of}
+use Rattle.runs.specs.Run.{apart, sorted, overlapping, contained, widened, span_of}
 
 module _ {A B T U : Type 0} (cmp_a : A → A → Ordering) (cmp_b : B → B → Ordering) (R : A → B → Type 0) (alike : CompareAlike cmp_a cmp_b R) (spansA : T → KeyRange A) (spansB : U → KeyRange B)
     (S : T → U → Type 0) (ranges : (t : T) (u : U) → S t u → TwinRange R (spansA t) (spansB u)) where

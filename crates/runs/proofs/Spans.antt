@@ -1,5 +1,5 @@
 -- The span of a run goes from the min of its first table to the max of its last; a part of a run is a run.
-use Rattle.std.proofs.Common.{◌≡◌, ℕ, zero, suc, ◌+◌, ◌-◌, ◌<◌, ◌≤◌, Bool, true, false, cond, not, ◌&&◌, List, [], ◌∷◌, length, get_or, take, drop, Some, Ok, Err, Option, Result, Ordering, sym, refl, ap, ◌∙◌, arith}
+use Rattle.std.proofs.Common.{◌≡◌, ℕ, zero, suc, ◌-◌, ◌<◌, true, false, cond, not, ◌&&◌, List, [], ◌∷◌, length, get_or, take, drop, Some, Ok, Err, Option, Result, Ordering, sym, refl, ap, ◌∙◌, arith}
 use Rattle.refusals.specs.declared.refusal.Refusal.{Refusal}
 use Rattle.refusals.specs.declared.refusal.Refusal.TheVariants.{NotSound}
 use Rattle.std.specs.Ordering.{is_lt, ordering_reverse}
@@ -7,7 +7,7 @@ use Rattle.std.proofs.lemmas.Bool.{and_parts, and_from, not-true}
 use Rattle.keys.specs.declared.key_range.KeyRange.{KeyRange}
 use Rattle.keys.specs.KeyKind.{Laws}
 use Rattle.runs.specs.Run.{apart, sorted, widened, span_of, aggregated}
-use Rattle.keys.proofs.Orders.{less_from, lt_chain, lt_le, le_lt}
+use Rattle.keys.proofs.Orders.{less_from, lt_le, le_lt}
 use Rattle.runs.proofs.Sorteds.{sorted_rest}
 use Rattle.keys.specs.KeyRange.{wider}
 

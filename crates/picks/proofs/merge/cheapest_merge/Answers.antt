@@ -22,7 +22,7 @@ loop-i-init g c =
       left_none laws spans curr next c.requires.next_sorted bytes cm nm _ refl refl,
       same_edge _ _ refl (ap (front bytes curr cm) (sym (ended_none laws spans curr next))),
       light_none laws spans curr next c.requires.next_sorted bytes cm nm 0,
-      λ hs m n. found_none cmp spans bytes g.T.TableFile.named hs curr next c.args.target_at,
+      λ hs m n. found_none cmp spans bytes g.T.TableFile.named hs curr next c.args.target_size,
     )
 
 pub is_allowed-requires : goal.is_allowed-requires
@@ -38,7 +38,7 @@ is_allowed-requires g c =
 pub merge_between-requires : goal.merge_between-requires
 merge_between-requires g c =
     let start = ap (λ (x : Edge). x.next.at) c.left_edge-left.ensures in
-    let a = allowed_gives (50 * c.args.target_at) c.left_edge-left.result c.right_edge-right.result (sym c.is_allowed.ensures ∙ c.if-is_allowed.true) in
+    let a = allowed_gives (50 * c.args.target_size) c.left_edge-left.result c.right_edge-right.result (sym c.is_allowed.ensures ∙ c.if-is_allowed.true) in
     edges_open g.met.Key.KeyKind.total g.T.Ranged.spans c.args.curr.now c.args.next.now c.requires.next_sorted g.T.TableFile.bytes c.args.curr_marks.now.at c.args.next_marks.now.at
     c.loop-i.i c.right_edge-right.result.next.at c.left_edge-left.result c.right_edge-right.result c.left_edge-left.ensures c.right_edge-right.ensures.edge
     (omega (arith, start, c.right_edge-right.ensures.shortest.past)) a.weighs c.requires.curr_small c.requires.next_small
@@ -54,7 +54,7 @@ loop-i-preserved g c =
     let next = c.args.next.now in
     let cm = c.args.curr_marks.now.at in
     let nm = c.args.next_marks.now.at in
-    let target = c.args.target_at in
+    let target = c.args.target_size in
     let cap = 50 * target in
     let i = c.loop-i.i in
     let left = c.left_edge-left.result in
@@ -82,4 +82,4 @@ loop-i-preserved g c =
 
 pub returns : goal.returns
 returns g c =
-    λ hs m n. found_all g.Key.KeyKind.ranks g.T.Ranged.spans g.T.TableFile.bytes g.T.TableFile.named hs c.args.curr.now c.args.next.now c.args.target_at c.loop-i.i c.loop-i.best (omega arith) (c.loop-i.invariant.3 hs m n)
+    λ hs m n. found_all g.Key.KeyKind.ranks g.T.Ranged.spans g.T.TableFile.bytes g.T.TableFile.named hs c.args.curr.now c.args.next.now c.args.target_size c.loop-i.i c.loop-i.best (omega arith) (c.loop-i.invariant.3 hs m n)

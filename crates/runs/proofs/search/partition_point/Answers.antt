@@ -1,6 +1,5 @@
-use Rattle.std.proofs.Common.{◌≡◌, ◌+◌, ◌-◌, ◌/◌, ◌<◌, length, sym, ◌∙◌, arith}
+use Rattle.std.proofs.Common.{sym, ◌∙◌, arith}
 use Rattle.std.proofs.lemmas.List.Sums.{count_by-le-length}
-use Rattle.keys.specs.KeyKind.{Laws}
 use Rattle.runs.specs.Search.{passed}
 use Rattle.runs.proofs.Falls.{count_over_read, count_under_read}
 use Rattle.runs.proofs.Sorteds.{sorted_falls}

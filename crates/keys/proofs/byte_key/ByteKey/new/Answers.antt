@@ -4,7 +4,10 @@ use Rattle.keys.proofs.Spares.{front_is, rest_is_zero}
 use Rattle.keys.proofs.byte_key.ByteKey.new.Goals as goal
 
 pub invariant_of-result : goal.invariant_of-result
-invariant_of-result c = (omega arith, (rest_is_zero c.args.from.now c.copy_from_slice.new.self (length c.args.from.now - 0) c.copy_from_slice.ensures.after (omega arith), tt))
+invariant_of-result c = record {
+  short = omega arith;
+  spare = rest_is_zero c.args.from.now c.copy_from_slice.new.self (length c.args.from.now - 0) c.copy_from_slice.ensures.after (omega arith);
+}
 
 pub returns : goal.returns
 returns c =

@@ -1,4 +1,4 @@
-use Rattle.std.proofs.Common.{◌≡◌, sym, ◌∙◌, arith}
+use Rattle.std.proofs.Common.{sym, ◌∙◌, arith}
 use Rattle.runs.proofs.Spans.{is_aggregated}
 use Rattle.runs.proofs.run.Run.aggregate_key_range.Goals as goal
 

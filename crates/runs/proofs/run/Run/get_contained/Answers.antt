@@ -1,4 +1,4 @@
-use Rattle.std.proofs.Common.{◌≡◌, sym, ◌∙◌}
+use Rattle.std.proofs.Common.{sym, ◌∙◌}
 use Rattle.runs.proofs.Sorteds.{is_contained}
 use Rattle.runs.proofs.run.Run.get_contained.Goals as goal
 

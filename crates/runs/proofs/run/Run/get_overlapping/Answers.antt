@@ -1,4 +1,4 @@
-use Rattle.std.proofs.Common.{◌≡◌, sym, ◌∙◌}
+use Rattle.std.proofs.Common.{sym, ◌∙◌}
 use Rattle.runs.proofs.Sorteds.{is_overlapping}
 use Rattle.runs.proofs.run.Run.get_overlapping.Goals as goal
 
