@@ -13,5 +13,5 @@ pub memb_decides : (n : ℕ) (xs : List ℕ) → Decides (memb n xs) (Has xs n)
 memb_decides n xs = Decides-by_or (λ x. eqb x n) (λ x. x ≡ n) (memb n) (λ x. Decides-eqb x n) refl (λ x xs. cond_or (eqb x n) (memb n xs)) xs
 
 -- what `contains` answers
-pub memb_contains : (n : ℕ) (xs : List ℕ) (r : Bool) → IsAnyAnswer (λ y t. Decides t (y ≡ n)) xs r → r ≡ memb n xs
+pub memb_contains : (n : ℕ) (xs : List ℕ) (r : Bool) → IsAnyAnswer (λ y t. eqb y n ≡ t) xs r → r ≡ memb n xs
 memb_contains n xs r h = same_from_decides r (memb n xs) (contains_decides eqb Decides-eqb xs n r h) (memb_decides n xs)

@@ -2,7 +2,7 @@
 use Rattle.std.proofs.Common.{◌≡◌, ℕ, zero, suc, ◌+◌, ◌-◌, ◌<◌, ◌≤◌, Bool, true, false, cond, List, [], ◌∷◌, ◌++◌, length, get_or, take, drop, set, sym, refl, ap, ◌∙◌, arith, rules}
 use lib.Seq.{paste}
 use Rattle.std.specs.List.{insert, remove}
-use Rattle.std.proofs.lemmas.List.Edits.{length_insert, length-remove}
+use Rattle.std.proofs.lemmas.List.Edits.{length-insert, length-remove}
 use Rattle.std.proofs.lemmas.List.{same_lists, places, append_assoc, drop-set, drop-drop, drop_at, take_at, set-append_right, get_or-append_right, get_or-drop, get_or-set_same, length-drop, length_push, length-take-le, take-append-drop}
 use Rattle.std.proofs.lemmas.Bool.{cases_eq}
 use Rattle.runs.proofs.Sorteds.{drop_read}
@@ -68,7 +68,7 @@ module _ {X : Type 0} where
       set (paste s (at + 1) (drop at s) (count - at)) at t ≡ laid (insert (take count s) at t) s
   put_in s at count t le lt =
       let n = length-take-le count s (omega arith) in
-      let m : count + 1 ≡ length (insert (take count s) at t) = omega (arith, length_insert (take count s) at t (omega arith)) in
+      let m : count + 1 ≡ length (insert (take count s) at t) = omega (arith, length-insert (take count s) at t (omega arith)) in
       shift_right s at count t le lt ∙ ap (λ j. insert (take count s) at t ++ drop j s) m
 
   -- ---- a shift by one to the left

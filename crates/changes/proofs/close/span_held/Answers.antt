@@ -10,9 +10,9 @@ pub loop-i-preserved : goal.loop-i-preserved
 loop-i-preserved g c =
     elim c.if-is_among.branch [
       | then-is_among w ↦
-          w.span_is ∙ ap Some w.grow.ensures
+          w.span-is ∙ ap Some w.grow.ensures
           ∙ span_yes g.K.KeyKind.ranks c.args.numbers.now c.args.tables.now c.loop-i.i c.index-tables-i.result (omega arith) c.index-tables-i.is w.if-is_among.ensures c.loop-i.span c.loop-i.invariant
-      | else-is_among w ↦ w.span_is ∙ c.loop-i.invariant ∙ span_no g.K.KeyKind.ranks c.args.numbers.now c.args.tables.now c.loop-i.i c.index-tables-i.result (omega arith) c.index-tables-i.is w.if-is_among.ensures
+      | else-is_among w ↦ w.span-is ∙ c.loop-i.invariant ∙ span_no g.K.KeyKind.ranks c.args.numbers.now c.args.tables.now c.loop-i.i c.index-tables-i.result (omega arith) c.index-tables-i.is w.if-is_among.ensures
     ]
 
 pub returns : goal.returns

@@ -16,8 +16,8 @@ overflow_add-bytes g c =
 pub loop-i-preserved : goal.loop-i-preserved
 loop-i-preserved g c =
     elim c.if-not-is_among.branch [
-      | then-not-is_among w ↦ rw (w.count_is, w.bytes_is) (weigh_yes c.args.numbers.now c.args.tables.now c.loop-i.count c.loop-i.bytes c.loop-i.i c.loop-i.invariant c.index-tables-i.result (omega arith) c.index-tables-i.is (ap not (sym w.if-not-is_among.ensures)))
-      | else-not-is_among w ↦ rw (w.count_is, w.bytes_is) (weigh_no c.args.numbers.now c.args.tables.now c.loop-i.count c.loop-i.bytes c.loop-i.i c.loop-i.invariant c.index-tables-i.result (omega arith) c.index-tables-i.is (ap not (sym w.if-not-is_among.ensures)))
+      | then-not-is_among w ↦ rw (w.count-is, w.bytes-is) (weigh_yes c.args.numbers.now c.args.tables.now c.loop-i.count c.loop-i.bytes c.loop-i.i c.loop-i.invariant c.index-tables-i.result (omega arith) c.index-tables-i.is (ap not (sym w.if-not-is_among.ensures)))
+      | else-not-is_among w ↦ rw (w.count-is, w.bytes-is) (weigh_no c.args.numbers.now c.args.tables.now c.loop-i.count c.loop-i.bytes c.loop-i.i c.loop-i.invariant c.index-tables-i.result (omega arith) c.index-tables-i.is (ap not (sym w.if-not-is_among.ensures)))
     ]
 
 pub returns : goal.returns

@@ -8,8 +8,8 @@ loop-i-preserved g c =
     let xs = c.args.sheet.now in
     let x = c.index-sheet-i.result in
     elim c.if-t-eq0.branch [
-      | then-t-eq0 w ↦ rw (w.sheet-is, w.last-is, w.next_is, w.counted_run-run.ensures) (recount_new xs c.loop-i.sheet c.args.count c.loop-i.last c.loop-i.next c.loop-i.i c.loop-i.invariant c.requires.within c.loop-i.auto.sheet x c.loop-i-test.true c.index-sheet-i.is (eq-eqb x.level 0 w.if-t-eq0.true))
-      | else-t-eq0 w ↦ rw (w.sheet-is, w.last-is, w.next_is) (recount_keep xs c.loop-i.sheet c.args.count c.loop-i.last c.loop-i.next c.loop-i.i c.loop-i.invariant c.requires.within c.loop-i.auto.sheet x c.loop-i-test.true c.index-sheet-i.is (ne_eqb x.level 0 w.if-t-eq0.false))
+      | then-t-eq0 w ↦ rw (w.sheet-is, w.last-is, w.next-is, w.counted_run-run.ensures) (recount_new xs c.loop-i.sheet c.args.count c.loop-i.last c.loop-i.next c.loop-i.i c.loop-i.invariant c.requires.within c.loop-i.auto.sheet x c.loop-i-test.true c.index-sheet-i.is (eq-eqb x.level 0 w.if-t-eq0.true))
+      | else-t-eq0 w ↦ rw (w.sheet-is, w.last-is, w.next-is) (recount_keep xs c.loop-i.sheet c.args.count c.loop-i.last c.loop-i.next c.loop-i.i c.loop-i.invariant c.requires.within c.loop-i.auto.sheet x c.loop-i-test.true c.index-sheet-i.is (ne_eqb x.level 0 w.if-t-eq0.false))
     ]
 
 pub returns : goal.returns

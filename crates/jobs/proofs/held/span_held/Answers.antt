@@ -15,8 +15,8 @@ loop-t-preserved g c =
     let rest = filter p (drop (i + 1) ts) in
     let step = kept_read (span_from cmp c.loop-t.span) p ts i t (omega arith) c.t-item.is in
     elim c.if-is_among.branch [
-      | then-is_among w ↦ c.loop-t.invariant ∙ step true (sym w.if-is_among.ensures) ∙ span_more cmp c.loop-t.span t rest ∙ ap (λ o. span_from cmp o rest) (sym (w.span_is ∙ w.widened-span.ensures))
-      | else-is_among w ↦ c.loop-t.invariant ∙ step false (sym w.if-is_among.ensures) ∙ ap (λ o. span_from cmp o rest) (sym w.span_is)
+      | then-is_among w ↦ c.loop-t.invariant ∙ step true (sym w.if-is_among.ensures) ∙ span_more cmp c.loop-t.span t rest ∙ ap (λ o. span_from cmp o rest) (sym (w.span-is ∙ w.widened-span.ensures))
+      | else-is_among w ↦ c.loop-t.invariant ∙ step false (sym w.if-is_among.ensures) ∙ ap (λ o. span_from cmp o rest) (sym w.span-is)
     ]
 
 pub returns : goal.returns

@@ -19,8 +19,8 @@ loop-t-preserved g c =
     let hs = hidden c.args.set.now in
     let next = free_more hs c.args.tables.now c.loop-t.t-index c.t-item.result (omega arith) c.t-item.is in
     elim c.if-not-is_hidden.branch [
-      | then-not-is_hidden w ↦ rw w.free_is (omega (arith, next false (sym w.if-not-is_hidden.ensures)))
-      | else-not-is_hidden w ↦ rw w.free_is (omega (arith, next true (sym w.if-not-is_hidden.ensures)))
+      | then-not-is_hidden w ↦ rw w.free-is (omega (arith, next false (sym w.if-not-is_hidden.ensures)))
+      | else-not-is_hidden w ↦ rw w.free-is (omega (arith, next true (sym w.if-not-is_hidden.ensures)))
     ]
 
 pub returns : goal.returns

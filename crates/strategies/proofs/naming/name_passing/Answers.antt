@@ -30,8 +30,8 @@ loop-i-preserved g c =
     elim c.if-picks.branch [
       | then-picks w ↦
           let r = write_room p ts c.args.ids.now c.loop-i.ids c.loop-i.count c.loop-i.bytes c.loop-i.i t (omega arith) c.index-tables-i.is c.loop-i.invariant (sym w.if-picks.ensures) in
-          rw (w.ids-is, w.count_is, w.bytes_is) (write_yes p ts c.args.ids.now c.loop-i.ids c.loop-i.count c.loop-i.bytes c.loop-i.i t (omega arith) c.index-tables-i.is c.loop-i.invariant (omega (arith, c.requires.room)) (sym w.if-picks.ensures))
-      | else-picks w ↦ rw (w.ids-is, w.count_is, w.bytes_is) (write_not p ts c.args.ids.now c.loop-i.ids c.loop-i.count c.loop-i.bytes c.loop-i.i t (omega arith) c.index-tables-i.is c.loop-i.invariant (sym w.if-picks.ensures))
+          rw (w.ids-is, w.count-is, w.bytes-is) (write_yes p ts c.args.ids.now c.loop-i.ids c.loop-i.count c.loop-i.bytes c.loop-i.i t (omega arith) c.index-tables-i.is c.loop-i.invariant (omega (arith, c.requires.room)) (sym w.if-picks.ensures))
+      | else-picks w ↦ rw (w.ids-is, w.count-is, w.bytes-is) (write_not p ts c.args.ids.now c.loop-i.ids c.loop-i.count c.loop-i.bytes c.loop-i.i t (omega arith) c.index-tables-i.is c.loop-i.invariant (sym w.if-picks.ensures))
     ]
 
 pub overflow_add-bytes : goal.overflow_add-bytes

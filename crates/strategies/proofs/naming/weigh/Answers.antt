@@ -23,8 +23,8 @@ loop-i-preserved g c =
     let ts = c.args.tables.now in
     let t = c.index-tables-i.result in
     elim c.if-picks.branch [
-      | then-picks w ↦ rw (w.count_is, w.bytes_is) (weigh_yes p ts c.loop-i.left c.loop-i.count c.loop-i.bytes c.loop-i.i t (omega arith) c.index-tables-i.is c.loop-i.invariant (omega arith) (sym w.if-picks.ensures))
-      | else-picks w ↦ rw (w.count_is, w.bytes_is) (weigh_not p ts c.loop-i.left c.loop-i.count c.loop-i.bytes c.loop-i.i t (omega arith) c.index-tables-i.is c.loop-i.invariant (omega arith) (sym w.if-picks.ensures))
+      | then-picks w ↦ rw (w.count-is, w.bytes-is) (weigh_yes p ts c.loop-i.left c.loop-i.count c.loop-i.bytes c.loop-i.i t (omega arith) c.index-tables-i.is c.loop-i.invariant (omega arith) (sym w.if-picks.ensures))
+      | else-picks w ↦ rw (w.count-is, w.bytes-is) (weigh_not p ts c.loop-i.left c.loop-i.count c.loop-i.bytes c.loop-i.i t (omega arith) c.index-tables-i.is c.loop-i.invariant (omega arith) (sym w.if-picks.ensures))
     ]
 
 pub returns : goal.returns

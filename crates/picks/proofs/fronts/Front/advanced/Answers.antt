@@ -27,7 +27,7 @@ loop-i-preserved g c =
     let k : i < length marks = search rules in (
       omega (arith, sum_by_more f ts i c.index-run-i.result h, ap f c.index-run-i.is, c.file_size-sum.ensures, c.loop-i.invariant.0),
       elim c.if-marks-i.branch [
-        | then-marks-i w ↦ w.count_is ∙ omega (arith, c.loop-i.invariant.1, count_by_more_yes (λ m. m) marks i _ k w.if-marks-i.true)
-        | else-marks-i w ↦ w.count_is ∙ c.loop-i.invariant.1 ∙ sym (count_by_more_no (λ m. m) marks i _ k w.if-marks-i.false)
+        | then-marks-i w ↦ w.count-is ∙ omega (arith, c.loop-i.invariant.1, count_by_more_yes (λ m. m) marks i _ k w.if-marks-i.true)
+        | else-marks-i w ↦ w.count-is ∙ c.loop-i.invariant.1 ∙ sym (count_by_more_no (λ m. m) marks i _ k w.if-marks-i.false)
       ],
     )
