@@ -12,9 +12,9 @@ use Rattle.picks.proofs.edges.right_edge.Goals.{then-end-left, else-end-left+the
 
 pub advanced-high-requires : goal.advanced-high-requires
 advanced-high-requires g c =
-    let cmp = g.Key.KeyKind.ranks in
+    let cmp = g.T.Key.KeyKind.ranks in
     let spans = g.T.Ranged.spans in
-    let laws = g.met.Key.KeyKind.total in
+    let laws = g.met.T.Key.KeyKind.total in
     let curr = c.args.curr.now in
     let next = c.args.next.now in
     let e = c.loop-end.end.at in
@@ -30,9 +30,9 @@ advanced-high-requires g c =
 
 pub loop-end-preserved : goal.loop-end-preserved
 loop-end-preserved g c =
-    let cmp = g.Key.KeyKind.ranks in
+    let cmp = g.T.Key.KeyKind.ranks in
     let spans = g.T.Ranged.spans in
-    let laws = g.met.Key.KeyKind.total in
+    let laws = g.met.T.Key.KeyKind.total in
     let bytes = g.T.TableFile.bytes in
     let curr = c.args.curr.now in
     let next = c.args.next.now in

@@ -6,8 +6,8 @@ use Rattle.picks.proofs.edges.right_edge.Given as goal
 abbrev pub invariant-loop-end : goal.invariant-loop-end
 invariant-loop-end g l =
     (l.end ≡ front g.T.TableFile.bytes l.next l.next_marks.at l.end.at)
-    × (l.high ≡ front g.T.TableFile.bytes l.curr l.curr_marks.at (ended g.Key.KeyKind.ranks g.T.Ranged.spans l.curr l.next l.end.at))
-    × Light g.Key.KeyKind.ranks g.T.Ranged.spans l.curr l.next g.T.TableFile.bytes l.curr_marks.at l.next_marks.at l.left.next.at l.end.at
+    × (l.high ≡ front g.T.TableFile.bytes l.curr l.curr_marks.at (ended g.T.Key.KeyKind.ranks g.T.Ranged.spans l.curr l.next l.end.at))
+    × Light g.T.Key.KeyKind.ranks g.T.Ranged.spans l.curr l.next g.T.TableFile.bytes l.curr_marks.at l.next_marks.at l.left.next.at l.end.at
 
 abbrev pub decreases-loop-end : goal.decreases-loop-end
 decreases-loop-end g l = length l.next - l.end.at

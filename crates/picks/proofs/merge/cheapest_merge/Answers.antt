@@ -11,10 +11,10 @@ use Rattle.picks.proofs.merge.cheapest_merge.Goals.{then-is_allowed, else-is_all
 
 pub loop-i-init : goal.loop-i-init
 loop-i-init g c =
-    let cmp = g.Key.KeyKind.ranks in
+    let cmp = g.T.Key.KeyKind.ranks in
     let spans = g.T.Ranged.spans in
     let bytes = g.T.TableFile.bytes in
-    let laws = g.met.Key.KeyKind.total in
+    let laws = g.met.T.Key.KeyKind.total in
     let curr = c.args.curr.now in
     let next = c.args.next.now in
     let cm = c.args.curr_marks.now.at in
@@ -39,17 +39,17 @@ pub merge_between-requires : goal.merge_between-requires
 merge_between-requires g c =
     let start = ap (λ (x : Edge). x.next.at) c.left_edge-left.ensures in
     let a = allowed_gives (50 * c.args.target_size) c.left_edge-left.result c.right_edge-right.result (sym c.is_allowed.ensures ∙ c.if-is_allowed.true) in
-    edges_open g.met.Key.KeyKind.total g.T.Ranged.spans c.args.curr.now c.args.next.now c.requires.next_sorted g.T.TableFile.bytes c.args.curr_marks.now.at c.args.next_marks.now.at
+    edges_open g.met.T.Key.KeyKind.total g.T.Ranged.spans c.args.curr.now c.args.next.now c.requires.next_sorted g.T.TableFile.bytes c.args.curr_marks.now.at c.args.next_marks.now.at
     c.loop-i.i c.right_edge-right.result.next.at c.left_edge-left.result c.right_edge-right.result c.left_edge-left.ensures c.right_edge-right.ensures.edge
     (omega (arith, start, c.right_edge-right.ensures.shortest.past)) a.weighs c.requires.curr_small c.requires.next_small
 
 pub loop-i-preserved : goal.loop-i-preserved
 loop-i-preserved g c =
-    let cmp = g.Key.KeyKind.ranks in
+    let cmp = g.T.Key.KeyKind.ranks in
     let spans = g.T.Ranged.spans in
     let bytes = g.T.TableFile.bytes in
     let named = g.T.TableFile.named in
-    let laws = g.met.Key.KeyKind.total in
+    let laws = g.met.T.Key.KeyKind.total in
     let curr = c.args.curr.now in
     let next = c.args.next.now in
     let cm = c.args.curr_marks.now.at in
@@ -82,4 +82,4 @@ loop-i-preserved g c =
 
 pub returns : goal.returns
 returns g c =
-    λ hs m n. found_all g.Key.KeyKind.ranks g.T.Ranged.spans g.T.TableFile.bytes g.T.TableFile.named hs c.args.curr.now c.args.next.now c.args.target_size c.loop-i.i c.loop-i.best (omega arith) (c.loop-i.invariant.3 hs m n)
+    λ hs m n. found_all g.T.Key.KeyKind.ranks g.T.Ranged.spans g.T.TableFile.bytes g.T.TableFile.named hs c.args.curr.now c.args.next.now c.args.target_size c.loop-i.i c.loop-i.best (omega arith) (c.loop-i.invariant.3 hs m n)

@@ -10,10 +10,10 @@ use Rattle.picks.proofs.movable.longest_movable.Goals.{then-gap-before, else-gap
 
 pub loop-i-preserved : goal.loop-i-preserved
 loop-i-preserved g c =
-    let cmp = g.Key.KeyKind.ranks in
+    let cmp = g.T.Key.KeyKind.ranks in
     let spans = g.T.Ranged.spans in
     let named = g.T.TableFile.named in
-    let laws = g.met.Key.KeyKind.total in
+    let laws = g.met.T.Key.KeyKind.total in
     let curr = c.args.curr.now in
     let next = c.args.next.now in
     let marks = c.args.marks.now.at in
@@ -67,8 +67,8 @@ loop-i-preserved g c =
 
 pub returns-then-best-eq0 : goal.returns-then-best-eq0
 returns-then-best-eq0 g c =
-    λ hs m. shown_none c.loop-i.best c.if-best-eq0.true ∙ found_all g.Key.KeyKind.ranks g.T.Ranged.spans g.T.TableFile.named hs c.args.curr.now c.args.next.now c.loop-i.i c.loop-i.best (omega arith) (c.loop-i.invariant.1 hs m)
+    λ hs m. shown_none c.loop-i.best c.if-best-eq0.true ∙ found_all g.T.Key.KeyKind.ranks g.T.Ranged.spans g.T.TableFile.named hs c.args.curr.now c.args.next.now c.loop-i.i c.loop-i.best (omega arith) (c.loop-i.invariant.1 hs m)
 
 pub returns-else-best-eq0 : goal.returns-else-best-eq0
 returns-else-best-eq0 g c =
-    λ hs m. shown_some c.loop-i.best c.if-best-eq0.false ∙ found_all g.Key.KeyKind.ranks g.T.Ranged.spans g.T.TableFile.named hs c.args.curr.now c.args.next.now c.loop-i.i c.loop-i.best (omega arith) (c.loop-i.invariant.1 hs m)
+    λ hs m. shown_some c.loop-i.best c.if-best-eq0.false ∙ found_all g.T.Key.KeyKind.ranks g.T.Ranged.spans g.T.TableFile.named hs c.args.curr.now c.args.next.now c.loop-i.i c.loop-i.best (omega arith) (c.loop-i.invariant.1 hs m)
