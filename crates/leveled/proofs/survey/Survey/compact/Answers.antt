@@ -8,13 +8,13 @@ use Rattle.leveled.proofs.survey.Survey.compact.Goals as goal
 
 pub pick_minimal_compaction-requires : goal.pick_minimal_compaction-requires
 pick_minimal_compaction-requires g c = record {
-  curr-sorted = c.tables_of-curr.ensures.run (omega (arith, c.requires.within));
-  next-sorted = c.tables_of-next.ensures.run (omega arith);
-  curr-small = c.tables_of-curr.ensures.small;
+  curr_sorted = c.tables_of-curr.ensures.run (omega (arith, c.requires.within));
+  next_sorted = c.tables_of-next.ensures.run (omega arith);
+  curr_small = c.tables_of-curr.ensures.small;
   next_small = c.tables_of-next.ensures.small;
   target_small = (limits (set_to c.args.self.now) c.requires.surveyed.limits).size_most;
-  curr-few = c.tables_of-curr.ensures.few;
-  next-few = c.tables_of-next.ensures.few;
+  curr_few = c.tables_of-curr.ensures.few;
+  next_few = c.tables_of-next.ensures.few;
 }
 
 -- ---- a move
