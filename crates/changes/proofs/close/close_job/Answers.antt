@@ -6,7 +6,7 @@ use Rattle.changes.proofs.close.close_job.Goals as goal
 
 pub returns-in_err-test_close : goal.returns-in_err-test_close
 returns-in_err-test_close g c =
-    let p = err_from_is_err_and c.from-residual.result c.from-residual.ensures.1 in
+    let p = err_from_is_err_and c.from_residual.result c.from_residual.ensures.1 in
     rw (p.1, p.2) (record {
       answer = close_refused g.K.KeyKind.ranks (job c.args.kind c.args.destination c.args.numbers.now) c.args.outputs.now c.args.sheet.now c.args.standing c.in_err-test_close.field-0.0 (c.in_err-test_close.ensures c.args.destination);
       sheet = refl;

@@ -5,7 +5,7 @@ use Rattle.changes.proofs.land.land_table.Goals as goal
 
 pub returns-in_err-run : goal.returns-in_err-run
 returns-in_err-run g c =
-    let p = err_from_is_err_and c.from-residual.result c.from-residual.ensures.1 in
+    let p = err_from_is_err_and c.from_residual.result c.from_residual.ensures.1 in
     rw (p.1, p.2) (record { answer = land_refused g.K.KeyKind.ranks c.args.fresh.now c.args.sheet.now c.args.standing c.in_err-run.field-0.0 c.in_err-run.ensures; sheet = refl })
 
 pub insert-requires : goal.insert-requires
