@@ -13,7 +13,8 @@ import sys
 
 HERE = os.path.dirname(os.path.realpath(__file__))
 NAME = re.compile(r"[A-Za-z_][A-Za-z0-9_'-]*")
-SKIPPED = re.compile(r"//[^\n]*|\"(?:\\.|[^\"\\])*\"")
+STRING = r"\"(?:\\.|[^\"\\])*\""
+SKIPPED = {".rt": re.compile(r"//[^\n]*|" + STRING), ".edit": re.compile(r"//[^\n]*|" + STRING), ".antt": re.compile(r"--[^\n]*|" + STRING)}
 
 
 def table():
@@ -25,17 +26,9 @@ def turn(text, names):
     return NAME.sub(lambda m: names.get(m[0], m[0]), text)
 
 
-def turn_antt(text, names):
-    lines = []
-    for line in text.split("\n"):
-        code, dashes, comment = line.partition("--")
-        lines.append(turn(code, names) + dashes + comment)
-    return "\n".join(lines)
-
-
-def turn_rust(text, names):
+def turn_code(text, names, skipped):
     parts, at = [], 0
-    for m in SKIPPED.finditer(text):
+    for m in skipped.finditer(text):
         parts += [turn(text[at : m.start()], names), m[0]]
         at = m.end()
     return "".join(parts + [turn(text[at:], names)])
@@ -52,11 +45,12 @@ def main(root):
     names = table()
     changed = 0
     for path in files(root):
-        if not path.endswith((".antt", ".rt", ".edit")):
+        skipped = SKIPPED.get(os.path.splitext(path)[1])
+        if skipped is None:
             continue
         with open(path, encoding="utf-8") as f:
             old = f.read()
-        new = turn_antt(old, names) if path.endswith(".antt") else turn_rust(old, names)
+        new = turn_code(old, names, skipped)
         if new != old:
             changed += 1
             with open(path, "w", encoding="utf-8") as f:
