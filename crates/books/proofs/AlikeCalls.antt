@@ -15,7 +15,6 @@ use Rattle.strategies.specs.Fifo.{place_of}
 use Rattle.books.specs.Book as Ask
 use Rattle.books.specs.Book.{Question, Booking, Left, job_of, ahead_of, second, look_on, taken, book_choice, book_answer}
 use Rattle.books.specs.Booked.{crosses, state_ok}
-use Rattle.books.specs.Calls.{propose, look_ahead, book}
 use Rattle.books.specs.Deed.{Deed, Reply, ended, chosen, booked, names, perform, after, said}
 use Rattle.books.specs.Job.{running}
 use Rattle.books.specs.Pairing.{TwinState, twin, AnswerAlike, TwinDeed, landings, askings, lookings, bookings, closings, givings}

@@ -11,7 +11,6 @@ use Rattle.sheets.specs.Sound.{Differ, Unmet, Sound}
 use Rattle.sheets.proofs.Each.{none_in, pair_in}
 use Rattle.books.specs.Book as B
 use Rattle.books.specs.Booked.{Booked, SoundState, state_ok}
-use Rattle.books.specs.Calls.{land, close, give_up, propose, look_ahead, book}
 use Rattle.books.specs.Close as C
 use Rattle.books.specs.Deed.{Deed, landing, asking, looking, booking, closing, giving, refusal_in, perform, Keeps}
 use Rattle.books.specs.Job.{running}

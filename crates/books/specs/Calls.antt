@@ -1,5 +1,5 @@
 -- The calls on an open book: each tests first that book and sheet are sound.
-use Rattle.std.specs.Prelude.{ℕ, cond, List, Ok, Err, Result}
+use Rattle.std.specs.Prelude.{ℕ, cond, List, Err, Result}
 use Rattle.std.specs.declared.cmp.Ordering.{Ordering}
 use Rattle.refusals.specs.declared.refusal.Refusal.{Refusal}
 use Rattle.refusals.specs.declared.refusal.Refusal.TheVariants.{NotSound}

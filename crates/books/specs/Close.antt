@@ -16,7 +16,7 @@ use Rattle.sheets.specs.Tables.{memb, named, without, placed, settled, inserts}
 use Rattle.strategies.specs.declared.choice.Kind.{Kind}
 use Rattle.strategies.specs.declared.choice.Kind.TheVariants.{Move, Merge, Drop}
 use Rattle.books.specs.Booked.{span_held}
-use Rattle.books.specs.Job.{Running, job_number, found, ended, held}
+use Rattle.books.specs.Job.{Running, job_number, found, ended}
 use Rattle.books.specs.Land.{has_room, fresh_ok}
 use Rattle.books.specs.State.{State, with_tables, with_jobs}
 

@@ -1,6 +1,5 @@
 -- Closing a job in the lent sheet is closing it on every book with that sheet.
 use Rattle.std.proofs.Common.{◌≡◌, ℕ, ◌-◌, ◌≤◌, Bool, true, false, cond, List, [], ◌∷◌, length, take, Some, None, Ok, Err, Option, Result, Ordering, sym, refl, ap, ◌∙◌, subst, arith}
-use Rattle.std.proofs.lemmas.List.{length-take-le}
 use Rattle.keys.specs.KeyKind.{Laws}
 use Rattle.refusals.specs.declared.refusal.Refusal.{Refusal}
 use Rattle.refusals.specs.declared.refusal.Refusal.TheVariants.{BadTable, BadOutputs, Full}
@@ -13,7 +12,7 @@ use Rattle.sheets.specs.Recount.{counting}
 use Rattle.sheets.proofs.Laid.{take_laid, relaid}
 use Rattle.edits.proofs.Recounting.{length_counting}
 use Rattle.books.specs.Booked.{span_held}
-use Rattle.books.specs.Close.{first_fault, bad_table, bad_outputs, closed, freed, unless_outputs, unless_tables, settled_or_full, close_found}
+use Rattle.books.specs.Close.{first_fault, bad_table, bad_outputs, closed, freed, unless_outputs, unless_tables, close_found}
 use Rattle.books.specs.Job.{Running, job_number, ended}
 use Rattle.books.specs.Land.{has_room}
 use Rattle.books.specs.State.{State, with_tables}

@@ -1,5 +1,5 @@
 -- A job's tables swapped for what it brings in, in place.
-use Rattle.std.proofs.Common.{◌≡◌, ℕ, ◌+◌, ◌≤◌, List, [], ◌++◌, map, length, take, drop, filter, Ordering, sym, refl, ap, ◌∙◌, subst, arith}
+use Rattle.std.proofs.Common.{◌≡◌, ℕ, ◌+◌, ◌≤◌, List, map, length, take, drop, filter, Ordering, sym, ap, ◌∙◌, arith}
 use Rattle.std.proofs.lemmas.List.{drop_at, length-map, length-take-le, take_at, take-take}
 use Rattle.runs.specs.declared.fresh.Fresh.{Fresh}
 use Rattle.runs.specs.declared.table.Table.{Table}

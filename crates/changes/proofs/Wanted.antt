@@ -1,5 +1,5 @@
 -- What outputs are wanted, by the kind of the job.
-use Rattle.std.proofs.Common.{◌≡◌, ℕ, true, false, eqb, ◌⊎◌, List, [], ◌∷◌, length, Some, None, Option, Ordering, sym, refl, ap, ◌∙◌, inl, inr, arith}
+use Rattle.std.proofs.Common.{◌≡◌, ℕ, true, false, eqb, ◌⊎◌, List, [], ◌∷◌, length, Some, None, Option, Ordering, sym, ap, ◌∙◌, inl, inr, arith}
 use Rattle.std.proofs.lemmas.Bool.{false≢true, eqb-true}
 use Rattle.keys.specs.declared.key_range.KeyRange.{KeyRange}
 use Rattle.runs.specs.declared.fresh.Fresh.{Fresh}

@@ -1,5 +1,5 @@
 -- A tour that is dropped: what naming and removing gave is what the definitions say.
-use Rattle.std.proofs.Common.{◌≡◌, ℕ, ◌≤◌, List, length, take, Ok, Err, Result, sym, refl, ap, ◌∙◌}
+use Rattle.std.proofs.Common.{◌≡◌, ℕ, ◌≤◌, List, length, take, Ok, Err, Result, sym, ap, ◌∙◌}
 use Rattle.std.proofs.lemmas.Bool.{cond_above}
 use Rattle.refusals.specs.declared.refusal.Refusal.{Refusal}
 use Rattle.keys.specs.declared.bounds.OwnedBounds.{OwnedBounds}

@@ -1,5 +1,5 @@
 -- Two jobs that are apart, by their slots.
-use Rattle.std.proofs.Common.{◌≡◌, ℕ, Bool, true, false, cond, not, ◌&&◌, eqb, List, [], ◌∷◌, map, Some, None, Option, Ordering, sym, refl, ap, ◌∙◌}
+use Rattle.std.proofs.Common.{◌≡◌, ℕ, Bool, true, false, cond, not, ◌&&◌, eqb, List, [], ◌∷◌, map, Some, None, Option, Ordering, refl, ap, ◌∙◌}
 use Rattle.runs.specs.declared.table.Table.{Table}
 use Rattle.sheets.specs.Members.{some, all_by}
 use Rattle.sheets.specs.Tables.{memb}
@@ -7,7 +7,7 @@ use Rattle.strategies.specs.Strategy.{spans_meet}
 use Rattle.books.specs.Booked.{pairs_by, is_going, span_held, crosses, jobs_apart}
 use Rattle.books.specs.Job.{Running, running}
 use Rattle.jobs.specs.declared.job.Job.{Job}
-use Rattle.jobs.specs.Sound.{free_or, free_or_so, level_in, same_level, span_in}
+use Rattle.jobs.specs.Sound.{free_or_so, level_in, same_level, span_in}
 use Rattle.jobs.specs.View.{slot, numbers_in}
 use Rattle.jobs.proofs.Loops.{all_map}
 use Rattle.jobs.proofs.Running.{pairs_running}

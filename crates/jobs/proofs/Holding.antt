@@ -1,5 +1,5 @@
 -- Steps through the standing tables for what a job holds.
-use Rattle.std.proofs.Common.{◌≡◌, ℕ, ◌+◌, ◌<◌, ◌≤◌, Bool, true, false, cond, not, ◌&&◌, ◌||◌, List, [], ◌∷◌, map, length, get_or, take, drop, Some, None, filter, Option, Ordering, sym, refl, ap, ◌∙◌, arith}
+use Rattle.std.proofs.Common.{◌≡◌, ℕ, ◌+◌, ◌<◌, Bool, false, cond, List, [], ◌∷◌, map, length, get_or, take, drop, Some, None, filter, Option, Ordering, sym, refl, ap, ◌∙◌, arith}
 use Rattle.keys.specs.declared.key_range.KeyRange.{KeyRange}
 use Rattle.runs.specs.declared.table.Table.{Table}
 use Rattle.runs.specs.Run.{span_of, widened}

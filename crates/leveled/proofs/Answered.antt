@@ -1,5 +1,5 @@
 -- Stretches that were named are an answer that names the tables which pass a test.
-use Rattle.std.proofs.Common.{◌≡◌, ℕ, zero, suc, ◌+◌, ◌-◌, ◌^◌, ◌≤◌, Bool, true, false, cond, not, ◌&&◌, ◌||◌, eqb, List, [], ◌∷◌, ◌++◌, length, take, drop, Ok, Err, filter, Ordering, sym, refl, ap, ◌∙◌, inl, inr, add-one, arith}
+use Rattle.std.proofs.Common.{◌≡◌, ℕ, suc, ◌+◌, ◌-◌, ◌≤◌, Bool, true, false, not, ◌&&◌, ◌||◌, eqb, List, [], ◌++◌, length, take, drop, Ok, Err, filter, Ordering, sym, refl, ap, ◌∙◌, inl, inr, add-one, arith}
 use Rattle.std.proofs.lemmas.List.Filters.{sum_by-filter_both}
 use Rattle.std.proofs.lemmas.List.{append-nil, length-append, length-take, length-drop}
 use Rattle.std.proofs.lemmas.List.Sums.{sum_by-append, length-filter, count_by-le-length}
@@ -28,7 +28,6 @@ use Rattle.sheets.specs.Sound.{tables_ok}
 use Rattle.strategies.specs.declared.choice.Choice.{Choice}
 use Rattle.strategies.specs.declared.choice.Choice.TheVariants as C
 use Rattle.strategies.specs.declared.choice.Input.{Input}
-use Rattle.strategies.specs.declared.choice.Kind.{Kind}
 use Rattle.strategies.specs.declared.choice.Kind.TheVariants.{Move, Merge}
 use Rattle.strategies.specs.declared.declined.Declined.TheVariants.{BadSetting}
 use Rattle.strategies.specs.Answer.{Answer, nothing, declines, naming, returned, written}

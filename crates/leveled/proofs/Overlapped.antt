@@ -1,5 +1,5 @@
 -- What a level has that meets level 0's span, as it is cut out of the level.
-use Rattle.std.proofs.Common.{◌≡◌, ℕ, ◌-◌, ◌<◌, ◌≤◌, max, Bool, true, false, not, ◌&&◌, List, [], length, take, drop, Some, None, count_by, filter, Option, Ordering, sym, refl, ap, ◌∙◌, arith}
+use Rattle.std.proofs.Common.{◌≡◌, ℕ, ◌-◌, max, true, List, [], take, drop, Some, None, count_by, filter, Ordering, sym, refl, ap, ◌∙◌, arith}
 use Rattle.keys.specs.declared.key_range.KeyRange.{KeyRange}
 use Rattle.keys.specs.KeyKind.{Laws}
 use Rattle.runs.specs.declared.search.End.TheVariants.{Min, Max}

@@ -5,14 +5,14 @@ use Rattle.std.proofs.lemmas.List.FromFn.{get_or-map-range_with_len, map-range_w
 use Rattle.std.proofs.lemmas.List.{take_all, take_more, take_more_set}
 use Rattle.keys.specs.KeyKind.{Laws}
 use Rattle.runs.specs.declared.table.Table.{Table}
-use Rattle.sheets.specs.Level.{size_of, level_of, Stacked}
+use Rattle.sheets.specs.Level.{size_of, Stacked}
 use Rattle.sheets.specs.Members.{some}
 use Rattle.sheets.specs.Sound.{Sound, tables_ok}
 use Rattle.sheets.proofs.Ascends.{sound_stacked}
 use Rattle.sheets.proofs.Soundness.{sound_from_test}
 use Rattle.leveled.specs.declared.survey.Holding.{Holding}
 use Rattle.leveled.specs.declared.survey.Survey.{Survey}
-use Rattle.leveled.specs.Survey.{held, set_to, standing, hides, Surveyed}
+use Rattle.leveled.specs.Survey.{held, standing, hides, Surveyed}
 
 module _ {K : Type 0} {cmp : K → K → Ordering} (laws : Laws cmp) where
   -- tables that pass the test are sound, in a sheet of whatever room

@@ -1,5 +1,5 @@
 -- What naming answered, and the line that was written of it.
-use Rattle.std.proofs.Common.{◌≡◌, ℕ, ◌+◌, ◌^◌, ◌<◌, ◌≤◌, min, Bool, true, cond, not, leb, List, [], ◌∷◌, ◌++◌, length, get_or, take, drop, Ok, Err, filter, Result, sym, refl, ap, ◌∙◌, subst, append_assoc, append-nil, arith}
+use Rattle.std.proofs.Common.{◌≡◌, ℕ, ◌+◌, ◌^◌, ◌<◌, ◌≤◌, min, Bool, cond, not, leb, List, ◌∷◌, ◌++◌, length, get_or, take, drop, Ok, Err, filter, Result, sym, refl, ap, ◌∙◌, subst, append_assoc, append-nil, arith}
 use Rattle.std.proofs.lemmas.List.Filters.{length-filter_both}
 use Rattle.std.proofs.lemmas.List.{drop_all, drop_more, length-map}
 use Rattle.std.proofs.lemmas.Bool.Decides.{nat_tests}

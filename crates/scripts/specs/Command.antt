@@ -1,7 +1,5 @@
 -- The first words of the lines.
 use Rattle.std.specs.Prelude.{ℕ, List, codes}
-use Rattle.scripts.specs.declared.command.KeyName.{KeyName}
-use Rattle.scripts.specs.declared.command.KeyName.TheVariants.{Stop, Bytes}
 use Rattle.scripts.specs.declared.command.Word.{Word}
 use Rattle.scripts.specs.declared.command.Word.TheVariants.{Sheet, Ids, Table, Open, Land, Propose, LookAhead, Book, Output, Close, GiveUp, Show}
 

@@ -1,12 +1,12 @@
 -- On tables that are equal but for keys, levels and what is asked of them are alike.
-use Rattle.std.proofs.Common.{◌≡◌, ℕ, Bool, List, [], ◌∷◌, refl, ap}
+use Rattle.std.proofs.Common.{◌≡◌, ℕ, Bool, List, refl, ap}
 use Rattle.keys.specs.Pairing.{Both, nil, cons}
 use Rattle.keys.proofs.Alike.{length_alike, sum_alike, kept_alike, map_same}
 use Rattle.runs.specs.declared.table.Table.{Table}
 use Rattle.runs.specs.Pairing.{Twin}
 use Rattle.sheets.specs.Level.{numbers_of, size_of, in_level, level_of, count_of, filled, touched, free_of, runs}
 use Rattle.sheets.specs.Members.{some, all_by}
-use Rattle.sheets.specs.Tables.{memb, named, unnamed, without}
+use Rattle.sheets.specs.Tables.{memb, named, unnamed}
 
 -- ---- tests of lists that pair
 module _ {X Y : Type 0} (S : X → Y → Type 0) where

@@ -1,13 +1,11 @@
 -- On tables that are equal but for keys that compare alike, the test of a sheet comes out alike, and soundness holds alike.
-use Rattle.std.proofs.Common.{◌≡◌, ℕ, suc, ◌^◌, true, ◌&&◌, leb, List, [], ◌∷◌, Ordering, sym, refl, ap, ◌∙◌}
+use Rattle.std.proofs.Common.{◌≡◌, ℕ, suc, ◌^◌, ◌&&◌, leb, List, Ordering, sym, refl, ap, ◌∙◌}
 use Rattle.keys.specs.KeyKind.{Laws}
 use Rattle.keys.specs.Pairing.{Both, nil, cons, CompareAlike}
 use Rattle.keys.proofs.Alike.{lt_alike}
 use Rattle.runs.specs.declared.table.Table.{Table}
 use Rattle.runs.specs.Pairing.{Twin}
-use Rattle.sheets.specs.Level.{numbers_of, size_of}
-use Rattle.sheets.specs.Members.{all_by}
-use Rattle.sheets.specs.Sound.{Sound, distinct, counts_on, within_limits, ahead, leads, in_order, tables_ok, sheet_ok}
+use Rattle.sheets.specs.Sound.{Sound, counts_on, within_limits, ahead, leads, in_order, tables_ok, sheet_ok}
 use Rattle.sheets.proofs.AlikeLevels.{all_alike, numbers_alike, size_alike}
 use Rattle.sheets.proofs.Soundness.{sound_from_test, test_from_sound}
 

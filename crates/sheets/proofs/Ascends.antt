@@ -1,5 +1,5 @@
 -- The order of the sheet: what it says of two tables, pair by pair, and how it passes along.
-use Rattle.std.proofs.Common.{◌≡◌, ℕ, ◌<◌, ◌≤◌, Bool, true, false, not, ◌&&◌, ◌⊎◌, List, [], ◌∷◌, Ordering, Less, Equal, Greater, sym, refl, ap, ◌∙◌, inl, inr, arith}
+use Rattle.std.proofs.Common.{◌≡◌, ℕ, ◌<◌, ◌≤◌, Bool, true, false, not, ◌⊎◌, List, Ordering, Greater, sym, ap, ◌∙◌, inl, inr, arith}
 use Rattle.std.specs.Ordering.{is_lt, ordering_reverse, ordering_then}
 use Rattle.std.proofs.lemmas.Bool.{both_ways, cases_order, and_cases, and_left, not-false, not_from_true}
 use Rattle.keys.specs.KeyKind.{Laws, by_number}
@@ -8,7 +8,7 @@ use Rattle.keys.specs.Lexes.{number_flip, less_number, same_number}
 use Rattle.keys.proofs.Orders.{less_from, lt_chain, lt_le, le_lt}
 use Rattle.runs.specs.declared.table.Table.{Table}
 use Rattle.sheets.specs.Level.{Stacked}
-use Rattle.sheets.specs.Members.{In, Every, Pairs}
+use Rattle.sheets.specs.Members.{Every, Pairs}
 use Rattle.sheets.specs.Sound.{Proper, Unmet, Ordered, Sound, ahead}
 use Rattle.sheets.specs.Tables.{sooner}
 use Rattle.sheets.proofs.Each.{pairs_weaker, pairs_zip}

@@ -1,5 +1,5 @@
 -- Who stands in a list, and what holds of each, of some and of each two.
-use Rattle.std.proofs.Common.{◌≡◌, ℕ, Bool, true, false, cond, ◌&&◌, eqb, ◌⊎◌, List, [], ◌∷◌, map, filter, sym, refl, ap, ◌∙◌, subst, inl, inr}
+use Rattle.std.proofs.Common.{◌≡◌, ℕ, Bool, true, false, cond, eqb, ◌⊎◌, List, [], ◌∷◌, map, filter, sym, refl, ap, ◌∙◌, subst, inl, inr}
 use Rattle.std.proofs.lemmas.Bool.{true≢false, cases_Bool, eq-eqb, eqb-true, and_parts, and_from}
 use Rattle.sheets.specs.Members.{In, here, later, Every, Pairs, none, more, some, all_by}
 use Rattle.sheets.specs.Tables.{memb}

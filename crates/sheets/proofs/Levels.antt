@@ -1,5 +1,5 @@
 -- Levels are stretches of a sheet that ascends by level, and what is asked of one is asked of its stretch.
-use Rattle.std.proofs.Common.{◌≡◌, ℕ, zero, suc, ◌+◌, ◌-◌, ◌<◌, ◌≤◌, max, Bool, true, false, cond, not, ◌&&◌, eqb, ltb, List, [], ◌∷◌, length, get_or, take, drop, sum_by, count_by, filter, sym, refl, ap, ◌∙◌, subst, inl, inr, arith}
+use Rattle.std.proofs.Common.{◌≡◌, ℕ, zero, suc, ◌+◌, ◌-◌, ◌<◌, ◌≤◌, max, Bool, true, false, cond, not, ◌&&◌, eqb, ltb, List, [], ◌∷◌, length, get_or, take, drop, count_by, filter, sym, refl, ap, ◌∙◌, subst, inl, inr, arith}
 use Rattle.std.proofs.lemmas.List.Elements.{filter_more}
 use Rattle.std.proofs.lemmas.List.Filters.{sum_by-filter_both}
 use Rattle.std.proofs.lemmas.List.{nil_from_length}
@@ -8,7 +8,7 @@ use Rattle.std.proofs.lemmas.Bool.{cases_Bool, ltb-false, lt-ltb, le-ltb, eqb-tr
 use Rattle.std.proofs.lemmas.Bool.Decides.{nat_tests}
 use Rattle.runs.specs.declared.table.Table.{Table}
 use Rattle.runs.proofs.Falls.{Falls, count_yes, count_no, kept_between}
-use Rattle.sheets.specs.Level.{size_of, in_level, level_of, count_of, filled, touched, free_of, runs, Stacked}
+use Rattle.sheets.specs.Level.{size_of, in_level, level_of, count_of, filled, touched, runs, Stacked}
 use Rattle.sheets.specs.Members.{In, here, later, Every, Pairs, none, more, some}
 use Rattle.sheets.specs.Tables.{named, unnamed, without}
 use Rattle.sheets.proofs.Each.{in_kept, kept_pairs, pairs_weaker}

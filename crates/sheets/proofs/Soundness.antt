@@ -1,12 +1,12 @@
 -- The test of a sheet says that the sheet is sound, and the other way round.
-use Rattle.std.proofs.Common.{◌≡◌, ℕ, suc, ◌+◌, ◌^◌, ◌<◌, ◌≤◌, Bool, true, false, cond, not, ◌&&◌, eqb, leb, ◌⊎◌, List, [], ◌∷◌, Decides, Ordering, sym, refl, ap, ◌∙◌, subst, inl, inr, arith}
+use Rattle.std.proofs.Common.{◌≡◌, ℕ, suc, ◌^◌, ◌<◌, ◌≤◌, true, false, cond, not, ◌&&◌, eqb, leb, ◌⊎◌, List, [], ◌∷◌, Decides, Ordering, sym, refl, ap, ◌∙◌, subst, inl, inr, arith}
 use Rattle.std.specs.Ordering.{is_lt}
-use Rattle.std.proofs.lemmas.Bool.{true≢false, eq-eqb, ne_eqb, eqb-true, eqb-false, le-leb, leb-true, and_parts, and_from, not-true, not_from_false, cases_order, cases_eq}
+use Rattle.std.proofs.lemmas.Bool.{eq-eqb, ne_eqb, eqb-true, eqb-false, le-leb, leb-true, and_parts, and_from, not-true, not_from_false, cases_order, cases_eq}
 use Rattle.keys.specs.KeyKind.{Laws}
 use Rattle.runs.specs.declared.table.Table.{Table}
 use Rattle.sheets.specs.Level.{numbers_of, size_of, Stacked}
 use Rattle.sheets.specs.Members.{In, here, later, Every, Pairs, none, more, all_by}
-use Rattle.sheets.specs.Sound.{Occupied, Counted, Proper, Ordered, Sound, distinct, counts_on, within_limits, leads, in_order, tables_ok, sheet_ok}
+use Rattle.sheets.specs.Sound.{Occupied, Proper, Sound, distinct, counts_on, within_limits, leads, in_order, tables_ok, sheet_ok}
 use Rattle.sheets.proofs.Ascends.{Ahead, by_level, by_run, by_key, ahead_from, ahead_to, ahead_chain, apart_from, order_from, ordered_ascends, sound_stacked}
 use Rattle.sheets.proofs.Distinct.{differ_from, differ_to}
 use Rattle.sheets.proofs.Each.{none_in, in_cases, all_from, all_to}

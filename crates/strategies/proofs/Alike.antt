@@ -1,11 +1,11 @@
 -- On tables that are equal but for keys, a test that comes out alike names alike.
-use Rattle.std.proofs.Common.{◌≡◌, ℕ, Bool, List, length, filter, refl}
+use Rattle.std.proofs.Common.{◌≡◌, ℕ, Bool, List, filter}
 use Rattle.keys.specs.Pairing.{Both}
 use Rattle.keys.proofs.Alike.{sum_alike, kept_alike, map_same}
 use Rattle.runs.specs.declared.table.Table.{Table}
 use Rattle.runs.specs.Pairing.{Twin}
 use Rattle.sheets.specs.Level.{numbers_of, size_of}
-use Rattle.strategies.specs.Naming.{weighed, named, written}
+use Rattle.strategies.specs.Naming.{named, written}
 
 module _ {A B : Type 0} (R : A → B → Type 0) where
   pub numbers_alike : {ts : List (Table A)} {us : List (Table B)} → Both (Twin R) ts us → numbers_of ts ≡ numbers_of us

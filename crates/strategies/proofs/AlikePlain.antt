@@ -1,12 +1,10 @@
 -- Major, range drop and FIFO, and the question put to any strategy that does, answer alike about tables that are equal but for keys that compare alike.
-use Rattle.std.proofs.Common.{◌≡◌, ℕ, suc, ◌+◌, ◌-◌, ◌*◌, Bool, true, cond, not, ◌&&◌, ◌||◌, eqb, ltb, leb, List, length, take, sum_by, filter, Ordering, refl, ap, ◌∙◌}
+use Rattle.std.proofs.Common.{◌≡◌, ℕ, suc, ◌+◌, ◌*◌, Bool, true, not, ◌&&◌, eqb, ltb, leb, List, length, take, Ordering, refl, ap, ◌∙◌}
 use Rattle.keys.specs.declared.bounds.OwnedBounds.{OwnedBounds}
 use Rattle.keys.specs.Pairing.{Both, nil, cons, CompareAlike, TwinBounds}
 use Rattle.keys.proofs.Alike.{length_alike, take_alike, sum_alike, kept_alike, within_alike}
 use Rattle.runs.specs.declared.table.Table.{Table}
 use Rattle.runs.specs.Pairing.{Twin}
-use Rattle.sheets.specs.Level.{in_level, level_of, size_of, runs}
-use Rattle.sheets.specs.Members.{some}
 use Rattle.sheets.specs.Sound.{sheet_ok}
 use Rattle.sheets.specs.Tables.{named}
 use Rattle.sheets.proofs.Alike.{named_alike}

@@ -1,5 +1,5 @@
 -- The question on a lent id sheet, from the answer into memory of its own.
-use Rattle.std.proofs.Common.{◌≡◌, ℕ, ◌^◌, ◌≤◌, Bool, true, false, cond, leb, List, length, take, drop, Ok, Err, Result, Ordering, sym, refl, ap, ◌∙◌, subst, arith}
+use Rattle.std.proofs.Common.{◌≡◌, ℕ, ◌^◌, ◌≤◌, true, cond, leb, List, length, take, drop, Ok, Err, Result, Ordering, sym, refl, ap, ◌∙◌, arith}
 use Rattle.std.proofs.lemmas.List.{take_at, length-append, length-drop, length-take-le}
 use Rattle.std.proofs.lemmas.Bool.{and_parts, leb-true, le-leb}
 use Rattle.refusals.specs.declared.refusal.Refusal.{Refusal}

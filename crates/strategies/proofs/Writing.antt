@@ -1,7 +1,7 @@
 -- The steps of a loop that writes the numbers of the tables that pass a test into the front of a list, and weighs them.
-use Rattle.std.proofs.Common.{◌≡◌, ℕ, ◌+◌, ◌<◌, ◌≤◌, Bool, true, false, cond, not, List, [], ◌∷◌, ◌++◌, map, length, get_or, take, drop, set, filter, sym, refl, ap, ◌∙◌, arith}
+use Rattle.std.proofs.Common.{◌≡◌, ℕ, ◌+◌, ◌<◌, ◌≤◌, Bool, true, false, cond, not, List, [], ◌∷◌, ◌++◌, length, get_or, take, drop, set, filter, sym, refl, ap, ◌∙◌, arith}
 use Rattle.std.proofs.lemmas.List.Filters.{sum_by-filter_both}
-use Rattle.std.proofs.lemmas.List.{drop_all, take_more_set, drop-set-lt, append_assoc, append-nil, take-append-drop, length-take-le, length-map, drop-drop}
+use Rattle.std.proofs.lemmas.List.{drop_all, take_more_set, drop-set-lt, append_assoc, append-nil, take-append-drop, length-map, drop-drop}
 use Rattle.std.proofs.lemmas.List.Sums.{sum_by-cons}
 use Rattle.runs.specs.declared.table.Table.{Table}
 use Rattle.runs.proofs.Sorteds.{drop_read}

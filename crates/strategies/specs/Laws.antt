@@ -1,7 +1,7 @@
 -- Major, range drop and FIFO keep the law, and say of what they name what is so.
-use Rattle.std.specs.Prelude.{◌≡◌, ℕ, ◌≤◌, Bool, true, false, cond, not, ◌&&◌, List, nat_lt, refl}
+use Rattle.std.specs.Prelude.{ℕ, Bool, true, cond, not, ◌&&◌, List, nat_lt}
 use Rattle.std.specs.declared.cmp.Ordering.{Ordering}
-use Rattle.std.proofs.Common.{sym, ap, ◌∙◌, arith}
+use Rattle.std.proofs.Common.{arith}
 use Rattle.std.proofs.lemmas.Bool.{true≢false, cond_both}
 use Rattle.keys.specs.declared.bounds.OwnedBounds.{OwnedBounds}
 use Rattle.runs.specs.declared.table.Table.{Table}
@@ -10,7 +10,7 @@ use Rattle.sheets.specs.Members.{some}
 use Rattle.sheets.specs.Sound.{Sound}
 use Rattle.sheets.specs.Tables.{named}
 use Rattle.strategies.specs.declared.choice.Kind.TheVariants.{Merge, Drop}
-use Rattle.strategies.specs.Answer.{Answer, nothing, chooses, declines, naming}
+use Rattle.strategies.specs.Answer.{Answer, nothing, declines, naming}
 use Rattle.strategies.specs.DropRange.{in_bounds, drop_range}
 use Rattle.strategies.specs.Fifo.{hidden_first, left_over, goes, fifo}
 use Rattle.strategies.specs.Major.{major}

@@ -1,5 +1,5 @@
 -- The law of strategies.
-use Rattle.std.specs.Prelude.{◌≡◌, ℕ, ◌≤◌, Bool, true, false, List, Some, None, filter, Option, ◌≢◌}
+use Rattle.std.specs.Prelude.{◌≡◌, ℕ, ◌≤◌, Bool, false, List, Some, None, filter, Option, ◌≢◌}
 use Rattle.std.specs.declared.cmp.Ordering.{Ordering}
 use Rattle.keys.specs.declared.key_range.KeyRange.{KeyRange}
 use Rattle.keys.specs.KeyRange.{meets}
@@ -11,7 +11,7 @@ use Rattle.sheets.specs.Members.{In, Every, Pairs}
 use Rattle.sheets.specs.Sound.{Sound, Differ}
 use Rattle.sheets.specs.Tables.{named}
 use Rattle.strategies.specs.declared.choice.Kind.{Kind}
-use Rattle.strategies.specs.declared.choice.Kind.TheVariants.{Move, Merge, Drop}
+use Rattle.strategies.specs.declared.choice.Kind.TheVariants.{Move, Drop}
 use Rattle.strategies.specs.Answer.{Chosen, Answer, nothing, chooses, declines}
 
 -- a table of this number stands

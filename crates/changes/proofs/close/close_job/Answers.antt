@@ -1,7 +1,7 @@
 use Rattle.std.proofs.Common.{refl, ◌∙◌, arith}
 use Rattle.std.proofs.lemmas.Result.{err_from_is_err_and}
 use Rattle.changes.specs.Close.{job}
-use Rattle.changes.proofs.Closings.{Granted, granted, close_refused, swapped_fits, close_sheet, close_done}
+use Rattle.changes.proofs.Closings.{granted, close_refused, swapped_fits, close_sheet, close_done}
 use Rattle.changes.proofs.close.close_job.Goals as goal
 
 pub returns-in_err-test_close : goal.returns-in_err-test_close

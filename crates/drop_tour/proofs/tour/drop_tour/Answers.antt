@@ -1,4 +1,4 @@
-use Rattle.std.proofs.Common.{◌≡◌, ◌-◌, sym, refl, ◌∙◌, arith, rules}
+use Rattle.std.proofs.Common.{◌-◌, arith}
 use Rattle.drop_tour.proofs.Dropping.{is_written, refused_answer, refused_sheet, granted_answer, granted_sheet}
 use Rattle.drop_tour.proofs.tour.drop_tour.Goals as goal
 

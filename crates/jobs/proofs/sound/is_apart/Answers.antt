@@ -1,4 +1,4 @@
-use Rattle.std.proofs.Common.{◌≡◌, Bool, filter, ap, ◌∙◌, arith}
+use Rattle.std.proofs.Common.{Bool, filter, ap, ◌∙◌, arith}
 use Rattle.runs.specs.Run.{span_of}
 use Rattle.sheets.specs.Tables.{named}
 use Rattle.books.specs.Booked.{jobs_apart}

@@ -1,4 +1,4 @@
-use Rattle.std.proofs.Common.{◌≡◌, sym, ap, ◌∙◌, arith}
+use Rattle.std.proofs.Common.{sym, ap, ◌∙◌, arith}
 use Rattle.sheets.specs.Tables.{memb}
 use Rattle.jobs.specs.View.{slot, numbers_in}
 use Rattle.jobs.proofs.Loops.{some_here, some_next, some_done}

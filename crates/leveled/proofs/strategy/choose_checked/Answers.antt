@@ -1,7 +1,6 @@
 use Rattle.std.proofs.Common.{ap, ◌∙◌}
-use Rattle.sheets.specs.HiddenSet.{hidden}
 use Rattle.leveled.specs.Leveled.{leveled}
-use Rattle.leveled.specs.Survey.{set_to, standing, hides}
+use Rattle.leveled.specs.Survey.{standing, hides}
 use Rattle.leveled.proofs.Answered.{gives_by}
 use Rattle.leveled.proofs.strategy.choose_checked.Goals as goal
 

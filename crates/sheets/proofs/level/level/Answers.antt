@@ -1,4 +1,4 @@
-use Rattle.std.proofs.Common.{◌≡◌, ◌+◌, ◌-◌, ◌≤◌, ltb, length, take, drop, count_by, ap, ◌∙◌, arith, rules}
+use Rattle.std.proofs.Common.{◌+◌, ◌-◌, ◌≤◌, ltb, length, take, drop, count_by, ap, ◌∙◌, arith, rules}
 use Rattle.sheets.proofs.Levels.{before_less, level_between}
 use Rattle.sheets.proofs.level.level.Given as given
 use Rattle.sheets.proofs.level.level.Goals as goal

@@ -1,4 +1,4 @@
-use Rattle.std.proofs.Common.{◌-◌, ◌<◌, length, sym, ◌∙◌, arith, rules}
+use Rattle.std.proofs.Common.{◌-◌, ◌<◌, length, sym, arith, rules}
 use Rattle.sheets.proofs.Levels.{runs_is, runs_none}
 use Rattle.sheets.proofs.level.run_count.Goals as goal
 

@@ -1,7 +1,6 @@
-use Rattle.std.proofs.Common.{◌≡◌, Bool, cond, Some, None, sym, refl, ap, ◌∙◌, arith}
+use Rattle.std.proofs.Common.{cond, Some, None, sym, ap, ◌∙◌, arith}
 use Rattle.std.proofs.lemmas.Bool.{and_left, and_right, and_from, eq-eqb, ne_eqb}
 use Rattle.sheets.specs.HiddenSet.{hidden}
-use Rattle.sheets.specs.Members.{some}
 use Rattle.strategies.specs.Fifo.{place_of, hidden_first}
 use Rattle.strategies.proofs.Searching.{search_all, search_found, search_place, search_on, search_none}
 use Rattle.strategies.proofs.fifo.first_hidden.Goals as goal

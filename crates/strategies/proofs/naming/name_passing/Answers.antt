@@ -1,5 +1,5 @@
-use Rattle.std.proofs.Common.{◌≡◌, ◌<◌, length, sym, arith, rules}
-use Rattle.strategies.proofs.Writing.{Writing, write_none, write_room, write_light, write_yes, write_not, write_all, write_named}
+use Rattle.std.proofs.Common.{◌<◌, length, sym, arith, rules}
+use Rattle.strategies.proofs.Writing.{write_none, write_room, write_light, write_yes, write_not, write_all, write_named}
 use Rattle.strategies.proofs.naming.name_passing.Goals as goal
 use Rattle.strategies.proofs.naming.name_passing.Goals.{then-picks, else-picks}
 

@@ -1,5 +1,5 @@
-use Rattle.std.proofs.Common.{◌≡◌, ◌-◌, sym, arith}
-use Rattle.strategies.proofs.Weighing.{Weighing, weigh_none, weigh_yes, weigh_not, weigh_over, weigh_all}
+use Rattle.std.proofs.Common.{sym, arith}
+use Rattle.strategies.proofs.Weighing.{weigh_none, weigh_yes, weigh_not, weigh_over, weigh_all}
 use Rattle.strategies.proofs.naming.weigh.Goals as goal
 use Rattle.strategies.proofs.naming.weigh.Goals.{then-picks, else-picks}
 

@@ -3,7 +3,7 @@ use Rattle.std.proofs.lemmas.Bool.{and_left, and_right, and_from}
 use Rattle.runs.specs.declared.table.Table.{Table}
 use Rattle.strategies.specs.Fifo.{place_of, older, live}
 use Rattle.strategies.proofs.Places.{numbered, earlier_here, earlier_there, older_here}
-use Rattle.strategies.proofs.Taking.{Taking, take_yes, take_not, take_all, less_is, less_none}
+use Rattle.strategies.proofs.Taking.{take_yes, take_not, take_all, less_is, less_none}
 use Rattle.strategies.proofs.outgoing.older_weigh_less.Goals as goal
 use Rattle.strategies.proofs.outgoing.older_weigh_less.Goals.{then-t-table, else-t-table, then-is_live+then-is_older, else-is_live, else-is_live-via-then-is_live+else-is_older, else-is_live-via-else-is_live}
 

@@ -1,4 +1,4 @@
-use Rattle.std.proofs.Common.{◌++◌, drop, is_ok, string_bytes, sym, ap, ◌∙◌, append-nil, arith}
+use Rattle.std.proofs.Common.{◌++◌, is_ok, string_bytes, sym, ap, ◌∙◌, append-nil, arith}
 use Rattle.std.proofs.ResultArms.{chosen}
 use Rattle.std.proofs.lemmas.List.{drop_all}
 use Rattle.texts.specs.Hex.{hexed}

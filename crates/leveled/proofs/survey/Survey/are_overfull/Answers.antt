@@ -1,10 +1,9 @@
-use Rattle.std.proofs.Common.{◌≡◌, ◌+◌, ◌-◌, Bool, true, ◌&&◌, sym, ap, ◌∙◌, arith}
+use Rattle.std.proofs.Common.{◌≡◌, ◌+◌, ◌-◌, true, ◌&&◌, sym, ap, ◌∙◌, arith}
 use Rattle.std.specs.List.{range_with_len}
 use Rattle.sheets.specs.Members.{all_by}
 use Rattle.leveled.specs.Leveled.{overfull}
 use Rattle.leveled.specs.Survey.{set_to, standing, hides}
 use Rattle.leveled.proofs.FirstLevels.{filled_no, all_at, overfull_empty, overfull_no, overfull_yes, all_first}
-use Rattle.leveled.proofs.survey.Survey.are_overfull.Given as given
 use Rattle.leveled.proofs.survey.Survey.are_overfull.Goals as goal
 use Rattle.leveled.proofs.survey.Survey.are_overfull.Goals.{else-level-gt0-via-then-level-gt0+else-level-level_target_size, else-level-gt0-via-else-level-gt0}
 

@@ -1,4 +1,4 @@
-use Rattle.std.proofs.Common.{◌≡◌, ◌+◌, ◌-◌, [], ◌++◌, sym, ap, ◌∙◌, arith}
+use Rattle.std.proofs.Common.{◌+◌, ◌-◌, [], ◌++◌, sym, arith}
 use Rattle.levels.proofs.Limits.{limits}
 use Rattle.leveled.specs.Leveled.{moved, merged}
 use Rattle.leveled.specs.Survey.{set_to, standing, hides}

@@ -1,6 +1,6 @@
-use Rattle.std.proofs.Common.{◌≡◌, ◌≤◌, Some, sym, ap, ◌∙◌, arith, rules}
+use Rattle.std.proofs.Common.{◌≡◌, ◌≤◌, Some, sym, ap, ◌∙◌, rules}
 use Rattle.levels.specs.Scores.{chosen}
-use Rattle.leveled.specs.Leveled.{scores, zero_won, picked, pick_for}
+use Rattle.leveled.specs.Leveled.{scores}
 use Rattle.leveled.specs.Survey.{set_to, standing, hides}
 use Rattle.leveled.proofs.Answered.{gives_by}
 use Rattle.leveled.proofs.Scored.{wins_between, won_zero, won_deeper}

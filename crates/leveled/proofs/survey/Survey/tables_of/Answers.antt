@@ -1,4 +1,4 @@
-use Rattle.std.proofs.Common.{◌≡◌, length, ap, ◌∙◌, arith}
+use Rattle.std.proofs.Common.{length, ap, ◌∙◌, arith}
 use Rattle.runs.specs.Run.{sorted}
 use Rattle.sheets.specs.Level.{size_of}
 use Rattle.sheets.proofs.Levels.{level_less}

@@ -1,4 +1,4 @@
-use Rattle.std.proofs.Common.{◌∙◌, arith}
+use Rattle.std.proofs.Common.{◌∙◌}
 use Rattle.strategies.proofs.FifoSteps.{goes_is}
 use Rattle.strategies.proofs.outgoing.OutgoingPicks.picks.Goals as goal
 
