@@ -1,6 +1,6 @@
 -- The best of some windows, by law, and that the definitions find it in the lists of all windows.
 use Rattle.std.proofs.Common.{◌≡◌, ℕ, zero, suc, ◌<◌, ◌≤◌, Bool, true, false, cond, ltb, ◌⊎◌, List, [], ◌∷◌, Some, None, Option, sym, refl, ap, ◌∙◌, subst, inl, inr, arith}
-use Rattle.std.specs.List.{ContainsAt as Has, AllByRecursion as All}
+use Rattle.std.specs.List.{ContainsAt, AllByRecursion}
 use Rattle.std.proofs.ByRecursion.{all-has}
 use Rattle.std.proofs.lemmas.Bool.{cases_Bool, both_ways, ltb-true, ltb-false, cases_order}
 use Rattle.windows.specs.declared.slice_windows.Window.{Window}
@@ -20,14 +20,14 @@ pub same_window : (v w : Window) → v.start ≡ w.start → v.len ≡ w.len →
 same_window v w e f = ap (λ s. win s v.len) e ∙ ap (win w.start) f
 
 -- what a list has is its first or stands behind it
-has_cases : (x : Window) (xs : List Window) (v : Window) → Has (x ∷ xs) v → (x ≡ v) ⊎ Has xs v
+has_cases : (x : Window) (xs : List Window) (v : Window) → ContainsAt (x ∷ xs) v → (x ≡ v) ⊎ ContainsAt xs v
 has_cases x xs v (zero, h, e) = inl (e x)
 has_cases x xs v (suc k, h, e) = inr (k, omega arith, e)
 
-has_first : (x : Window) (xs : List Window) → Has (x ∷ xs) x
+has_first : (x : Window) (xs : List Window) → ContainsAt (x ∷ xs) x
 has_first x xs = (0, omega arith, λ d. refl)
 
-has_later : (x : Window) (xs : List Window) (v : Window) → Has xs v → Has (x ∷ xs) v
+has_later : (x : Window) (xs : List Window) (v : Window) → ContainsAt xs v → ContainsAt (x ∷ xs) v
 has_later x xs v (k, h, e) = (suc k, omega arith, e)
 
 module _ (ok : Window → Bool) (cost : Window → ℕ) where
@@ -55,8 +55,8 @@ module _ (ok : Window → Bool) (cost : Window → ℕ) where
 
   -- a list in the order of reading, from which the definition takes its best
   module _ (Lt : Window → Window → Type 0) (one_way : (v w : Window) → Lt v w → Lt w v → ⊥) where
-    module _ (x : Window) (xs : List Window) (ahead : All (Lt x) xs) where
-      skip : (o : Option Window) → ok x ≡ false → Best (Has xs) Lt o → Best (Has (x ∷ xs)) Lt o
+    module _ (x : Window) (xs : List Window) (ahead : AllByRecursion (Lt x) xs) where
+      skip : (o : Option Window) → ok x ≡ false → Best (ContainsAt xs) Lt o → Best (ContainsAt (x ∷ xs)) Lt o
       skip None e b = λ v r. elim (has_cases x xs v r) [ inl q ↦ ap ok (sym q) ∙ e | inr h ↦ b v h ]
       skip (Some y) e b = record {
         here = has_later x xs y b.here;
@@ -66,7 +66,7 @@ module _ (ok : Window → Bool) (cost : Window → ℕ) where
       }
 
       -- x costs no more than what passes behind it
-      stay : ok x ≡ true → ((v : Window) → Has xs v → ok v ≡ true → cost x ≤ cost v) → IsBest ok cost (Has (x ∷ xs)) Lt x
+      stay : ok x ≡ true → ((v : Window) → ContainsAt xs v → ok v ≡ true → cost x ≤ cost v) → IsBest ok cost (ContainsAt (x ∷ xs)) Lt x
       stay e f = record {
         here = has_first x xs;
         passes = e;
@@ -77,7 +77,7 @@ module _ (ok : Window → Bool) (cost : Window → ℕ) where
         ]);
       }
 
-      leave : (y : Window) → cost y < cost x → IsBest ok cost (Has xs) Lt y → IsBest ok cost (Has (x ∷ xs)) Lt y
+      leave : (y : Window) → cost y < cost x → IsBest ok cost (ContainsAt xs) Lt y → IsBest ok cost (ContainsAt (x ∷ xs)) Lt y
       leave y c b = record {
         here = has_later x xs y b.here;
         passes = b.passes;
@@ -85,7 +85,7 @@ module _ (ok : Window → Bool) (cost : Window → ℕ) where
         first = λ v r f l. elim (has_cases x xs v r) [ inl q ↦ omega (arith, ap cost q) | inr h ↦ b.first v h f l ];
       }
 
-      taken : (o : Option Window) → ok x ≡ true → Best (Has xs) Lt o → Best (Has (x ∷ xs)) Lt (cheaper cost (Some x) o)
+      taken : (o : Option Window) → ok x ≡ true → Best (ContainsAt xs) Lt o → Best (ContainsAt (x ∷ xs)) Lt (cheaper cost (Some x) o)
       unfolding cheaper
       taken None e b = stay e (λ v h f. absurd (both_ways _ (b v h) f))
       taken (Some y) e b = elim (cases_Bool (ltb (cost y) (cost x))) [
@@ -93,17 +93,17 @@ module _ (ok : Window → Bool) (cost : Window → ℕ) where
         | inr c ↦ rw c (stay e (λ v h f. omega (arith, ltb-false _ _ c, b.least v h f)))
       ]
 
-      one_more : (o : Option Window) → Best (Has xs) Lt o → Best (Has (x ∷ xs)) Lt (cheaper cost (cond (ok x) (Some x) None) o)
+      one_more : (o : Option Window) → Best (ContainsAt xs) Lt o → Best (ContainsAt (x ∷ xs)) Lt (cheaper cost (cond (ok x) (Some x) None) o)
       unfolding cheaper
       one_more o b = elim (cases_Bool (ok x)) [ inl e ↦ rw e (taken o e b) | inr e ↦ rw e (skip o e b) ]
 
-    list_best : (xs : List Window) → Ascends Lt xs → Best (Has xs) Lt (cheapest_of ok cost xs)
+    list_best : (xs : List Window) → Ascends Lt xs → Best (ContainsAt xs) Lt (cheapest_of ok cost xs)
     unfolding cheapest_of
     list_best [] a = λ v r. absurd (omega arith)
     list_best (x ∷ xs) a = one_more x xs a.0 (cheapest_of ok cost xs) (list_best xs a.1)
 
     once_best : (R : Window → Type 0) (xs : List Window) → EachOnce R Lt xs → Best R Lt (cheapest_of ok cost xs)
-    once_best R xs o = same_region R (Has xs) Lt (λ v h. all-has R xs v o.only h) o.every (cheapest_of ok cost xs) (list_best xs o.ascends)
+    once_best R xs o = same_region R (ContainsAt xs) Lt (λ v h. all-has R xs v o.only h) o.every (cheapest_of ok cost xs) (list_best xs o.ascends)
 
   pub growing_best : (n : ℕ) → Best (Within n) Shorter (cheapest_of ok cost (growing n))
   growing_best n = once_best Shorter (λ v w a b. elim a [ inl p ↦ elim b [ inl q ↦ omega arith | inr q ↦ omega arith ] | inr p ↦ elim b [ inl q ↦ omega arith | inr q ↦ omega arith ] ]) (Within n) (growing n) (growing_once n)

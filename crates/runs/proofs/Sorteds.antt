@@ -3,7 +3,7 @@ use Rattle.std.proofs.Common.{◌≡◌, ℕ, ◌+◌, ◌-◌, ◌<◌, ◌≤�
 use Rattle.std.proofs.lemmas.List.{drop_more, drop_all}
 use Rattle.std.specs.Ordering.{is_lt}
 use Rattle.keys.specs.declared.key_range.KeyRange.{KeyRange}
-use Rattle.std.specs.List.{AllByRecursion as All}
+use Rattle.std.specs.List.{AllByRecursion}
 use Rattle.std.proofs.lemmas.Bool.{and_parts, not-true, not-false, cases_Bool, both_ways}
 use Rattle.runs.specs.declared.search.End.{End}
 use Rattle.runs.specs.declared.search.End.TheVariants.{Min, Max}
@@ -47,7 +47,7 @@ module _ {K T : Type 0} {cmp : K → K → Ordering} (laws : Laws cmp) (spans : 
   under key top (t ∷ ts) p q = le_lt laws key top (spans t).min p q
 
   -- behind a key that the first table begins after, each end of each table lies after the key
-  pub behind : (key : K) (ts : List T) → apart cmp spans key ts ≡ true → sorted cmp spans ts ≡ true → (e : End) → All (λ u. is_lt (cmp key (end_of e (spans u))) ≡ true) ts
+  pub behind : (key : K) (ts : List T) → apart cmp spans key ts ≡ true → sorted cmp spans ts ≡ true → (e : End) → AllByRecursion (λ u. is_lt (cmp key (end_of e (spans u))) ≡ true) ts
   behind key [] p q e = tt
   behind key (t ∷ ts) p q e =
       let s = and_parts _ _ q in
@@ -61,12 +61,12 @@ module _ {K T : Type 0} {cmp : K → K → Ordering} (laws : Laws cmp) (spans : 
   reach_falls Before key x y l e = elim (cases_Bool (is_lt (cmp y key))) [ inl h ↦ absurd (both_ways _ e (lt_chain laws x y key l h)) | inr h ↦ h ]
   reach_falls UpTo key x y l e = ap not (lt_chain laws key x y (not-false _ e) l)
 
-  none_passed : (e : End) (r : Reach) (key x : K) (ts : List T) → reaches cmp r key x ≡ false → All (λ u. is_lt (cmp x (end_of e (spans u))) ≡ true) ts → count_by (passed cmp spans e r key) ts ≡ 0
+  none_passed : (e : End) (r : Reach) (key x : K) (ts : List T) → reaches cmp r key x ≡ false → AllByRecursion (λ u. is_lt (cmp x (end_of e (spans u))) ≡ true) ts → count_by (passed cmp spans e r key) ts ≡ 0
   none_passed e r key x [] n a = refl
   none_passed e r key x (t ∷ ts) n a = count_no (passed cmp spans e r key) t ts (reach_falls r key x (end_of e (spans t)) a.0 n) ∙ none_passed e r key x ts n a.1
 
   -- an end of a table lies before each later table's
-  pub end_behind : (t : T) (ts : List T) → sorted cmp spans (t ∷ ts) ≡ true → (e : End) → All (λ u. is_lt (cmp (end_of e (spans t)) (end_of e (spans u))) ≡ true) ts
+  pub end_behind : (t : T) (ts : List T) → sorted cmp spans (t ∷ ts) ≡ true → (e : End) → AllByRecursion (λ u. is_lt (cmp (end_of e (spans t)) (end_of e (spans u))) ≡ true) ts
   end_behind t ts q Max =
       let s = and_parts _ _ q in
       let r = and_parts _ _ s.1 in

@@ -1,6 +1,6 @@
 -- The lists of windows: each window once, and what is read behind a window.
 use Rattle.std.proofs.Common.{◌≡◌, ℕ, zero, suc, ◌+◌, ◌-◌, ◌<◌, ◌≤◌, ◌⊎◌, List, [], ◌∷◌, ◌++◌, sym, refl, ap, ◌∙◌, inl, inr, arith}
-use Rattle.std.specs.List.{AllByRecursion as All}
+use Rattle.std.specs.List.{AllByRecursion}
 use Rattle.std.proofs.ByRecursion.{All-append, All-weaker, has_append_left, has_append_right}
 use Rattle.std.proofs.lemmas.Bool.{cases_lt}
 use Rattle.windows.specs.declared.slice_windows.Window.{Window}
@@ -10,7 +10,7 @@ same_window : (v w : Window) → v.start ≡ w.start → v.len ≡ w.len → v �
 same_window v w e f = ap (λ s. win s v.len) e ∙ ap (win w.start) f
 
 -- what ascends goes on ascending behind what is before all of it
-ascends_append : {X : Type 0} (R : X → X → Type 0) (P Q : X → Type 0) (xs ys : List X) → ((x y : X) → P x → Q y → R x y) → All P xs → All Q ys → Ascends R xs → Ascends R ys → Ascends R (xs ++ ys)
+ascends_append : {X : Type 0} (R : X → X → Type 0) (P Q : X → Type 0) (xs ys : List X) → ((x y : X) → P x → Q y → R x y) → AllByRecursion P xs → AllByRecursion Q ys → Ascends R xs → Ascends R ys → Ascends R (xs ++ ys)
 ascends_append R P Q [] ys f p q a b = b
 ascends_append R P Q (x ∷ xs) ys f p q a b =
     (All-append (R x) xs ys a.0 (All-weaker Q (R x) (λ y h. f x y p.0 h) ys q), ascends_append R P Q xs ys f p.1 q a.1 b)

@@ -1,6 +1,6 @@
 -- Windows of n tables, in the two orders in which they are read.
 use Rattle.std.specs.Prelude.{◌≡◌, ℕ, zero, suc, ◌+◌, ◌-◌, ◌<◌, ◌≤◌, Bool, true, ◌&&◌, ◌⊎◌, List, [], ◌∷◌, ◌++◌, take, drop, Some, None, Option, nat_le, nat_lt}
-use Rattle.std.specs.List.{ContainsAt as Has, AllByRecursion as All}
+use Rattle.std.specs.List.{ContainsAt, AllByRecursion}
 use Rattle.windows.specs.declared.slice_windows.Window.{Window}
 use Rattle.windows.specs.declared.slice_windows.Summed.{Summed}
 
@@ -55,12 +55,12 @@ Longer v w = (w.len < v.len) ⊎ ((v.len ≡ w.len) × (v.start < w.start))
 -- each is before all behind it; so, where nothing is before itself, none stands twice
 abbrev pub Ascends : {X : Type 0} → (X → X → Type 0) → List X → Type 0
 Ascends R [] = Unit {0}
-Ascends R (x ∷ xs) = All (R x) xs × Ascends R xs
+Ascends R (x ∷ xs) = AllByRecursion (R x) xs × Ascends R xs
 
 -- the list has each window of a kind once and no other, in the order of reading
 pub record EachOnce (Kind : Window → Type 0) (Before : Window → Window → Type 0) (ws : List Window) : Type 0 where
-  pub only : All Kind ws
-  pub every : (w : Window) → Kind w → Has ws w
+  pub only : AllByRecursion Kind ws
+  pub every : (w : Window) → Kind w → ContainsAt ws w
   pub ascends : Ascends Before ws
 
 -- what is read next, if anything, is a window of n tables
