@@ -1,4 +1,5 @@
 -- A level that is one run: two of its tables do not meet, and its tables are a run.
+-- Lemmas for a law that an impl owes, whose term can cite specs/ alone: they are proved, and nothing here has to be believed.
 use Rattle.std.specs.Prelude.{◌≡◌, ℕ, zero, suc, ◌<◌, ◌≤◌, max, true, false, cond, not, ◌⊎◌, List, [], ◌∷◌, ◌==◌, refl}
 use Rattle.std.specs.declared.cmp.Ordering.{Ordering}
 use Rattle.std.proofs.Common.{sym, ap, ◌∙◌, inl, inr, arith}

@@ -1,4 +1,5 @@
 -- Whichever strategy the settings are for keeps the law, and says of what it names what is so.
+-- Lemmas for a law that an impl owes, whose term can cite specs/ alone: they are proved, and nothing here has to be believed.
 use Rattle.std.specs.Prelude.{ℕ, List}
 use Rattle.std.specs.declared.cmp.Ordering.{Ordering}
 use Rattle.keys.specs.KeyKind.{Laws}

@@ -19,6 +19,9 @@ use sheets::level::{level, run_count, size};
 // A second in nanoseconds.
 const SECOND: u64 = 1_000_000_000;
 
+// How many runs level 0 may have.
+const MOST_RUNS: usize = 1;
+
 /// The settings of FIFO.
 #[derive(Clone, Copy)]
 pub struct FifoSettings {
@@ -104,7 +107,7 @@ impl<K: KeyKind> CompactionStrategy<K> for Fifo {
         if level(tables, 0).tables.is_empty() {
             return Ok(Choice::DoNothing);
         }
-        if run_count(tables) > 1 {
+        if run_count(tables) > MOST_RUNS {
             return Err(Declined::ManyRuns);
         }
         if let Some(place) = first_hidden(tables, hidden_set) {

@@ -54,6 +54,17 @@ fn weigh<K: KeyKind, P: Picks<K>>(tables: &[Table<K>], test: &P) -> Result<Named
     Ok(Named { count, bytes })
 }
 
+// Whether the table passes and is hidden.
+fn is_hidden_passing<K: KeyKind, P: Picks<K>>(
+    table: &Table<K>,
+    test: &P,
+    hidden_set: &HiddenSet,
+) -> bool
+    ensures { result ≡ (P.Picks.passes test.now table.now && hides (hidden hidden_set.now) table.now) }
+{
+    test.picks(table) && hidden_set.is_hidden(table.number)
+}
+
 /// Whether one of the tables that pass is hidden.
 pub fn has_hidden_passing<K: KeyKind, P: Picks<K>>(
     tables: &[Table<K>],
@@ -64,7 +75,7 @@ pub fn has_hidden_passing<K: KeyKind, P: Picks<K>>(
 {
     for i in 0..tables.len() {
         let table = tables[i];
-        if test.picks(&table) && hidden_set.is_hidden(table.number) {
+        if is_hidden_passing(&table, test, hidden_set) {
             return true;
         }
     }

@@ -35,18 +35,18 @@ returns-then-is_empty g c =
     let e = fifo_empty s.limit s.ttl_seconds c.args.blob_total c.args.clock c.args.tables.now (hidden c.args.hidden_set.now) _ c.level.ensures.tables c.if-is_empty.ensures in
     record { answer = ap returned e; ids = ap (λ a. written a c.args.ids.now) e }
 
-pub returns-then-run_count-gt1 : goal.returns-then-run_count-gt1
-returns-then-run_count-gt1 g c =
+pub returns-then-run_count-gt-MOST_RUNS : goal.returns-then-run_count-gt-MOST_RUNS
+returns-then-run_count-gt-MOST_RUNS g c =
     let s = c.args.settings.now in
     let e = fifo_many s.limit s.ttl_seconds c.args.blob_total c.args.clock c.args.tables.now (hidden c.args.hidden_set.now) _ c.level.ensures.tables c.if-is_empty.ensures
-    c.run_count.result c.run_count.ensures c.if-run_count-gt1.true in
+    c.run_count.result c.run_count.ensures c.if-run_count-gt-MOST_RUNS.true in
     record { answer = ap returned e; ids = ap (λ a. written a c.args.ids.now) e }
 
 pub returns-in-Some : goal.returns-in-Some
 returns-in-Some g c =
     let s = c.args.settings.now in
     let e = fifo_hidden s.limit s.ttl_seconds c.args.blob_total c.args.clock c.args.tables.now (hidden c.args.hidden_set.now) _ c.level.ensures.tables c.if-is_empty.ensures
-    c.run_count.result c.run_count.ensures c.if-run_count-gt1.false c.in-Some.place c.in-Some.ensures in
+    c.run_count.result c.run_count.ensures c.if-run_count-gt-MOST_RUNS.false c.in-Some.place c.in-Some.ensures in
     record { answer = ap returned e; ids = ap (λ a. written a c.args.ids.now) e }
 
 pub returns-then-named-eq0 : goal.returns-then-named-eq0
@@ -54,13 +54,13 @@ returns-then-named-eq0 g c =
     let s = c.args.settings.now in
     let none = sym (ap (λ n. n.count) c.name_passing-named.ensures.answer) ∙ c.if-named-eq0.true in
     let e = fifo_none s.limit s.ttl_seconds c.args.blob_total c.args.clock c.args.tables.now (hidden c.args.hidden_set.now) _ c.level.ensures.tables c.if-is_empty.ensures
-    c.run_count.result c.run_count.ensures c.if-run_count-gt1.false c.in_default.ensures c.left_over-left.result c.left_over-left.ensures none in
+    c.run_count.result c.run_count.ensures c.if-run_count-gt-MOST_RUNS.false c.in_default.ensures c.left_over-left.result c.left_over-left.ensures none in
     record { answer = ap returned e; ids = c.name_passing-named.ensures.ids ∙ laid_none _ c.args.ids.now none ∙ ap (λ a. written a c.args.ids.now) e }
 
 pub returns : goal.returns
 returns g c =
     let s = c.args.settings.now in
     let e = fifo_drop s.limit s.ttl_seconds c.args.blob_total c.args.clock c.args.tables.now (hidden c.args.hidden_set.now) _ c.level.ensures.tables c.if-is_empty.ensures
-    c.run_count.result c.run_count.ensures c.if-run_count-gt1.false c.in_default.ensures c.left_over-left.result c.left_over-left.ensures
+    c.run_count.result c.run_count.ensures c.if-run_count-gt-MOST_RUNS.false c.in_default.ensures c.left_over-left.result c.left_over-left.ensures
     (λ z. c.if-named-eq0.false (ap (λ n. n.count) c.name_passing-named.ensures.answer ∙ z)) in
     record { answer = ap (λ n. Ok (C.Drop n)) c.name_passing-named.ensures.answer ∙ ap returned e; ids = c.name_passing-named.ensures.ids ∙ ap (λ a. written a c.args.ids.now) e }
