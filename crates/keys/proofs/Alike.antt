@@ -3,7 +3,7 @@ use Rattle.std.proofs.Common.{◌≡◌, ℕ, zero, suc, Bool, true, false, cond
 use Rattle.std.specs.Ordering.{is_lt}
 use Rattle.std.proofs.lemmas.List.Sums.{sum_by-cons}
 use Rattle.keys.specs.declared.key_range.KeyRange.{KeyRange}
-use Rattle.keys.specs.declared.bounds.Bound.{Bound}
+use Rattle.std.specs.declared.ops.Bound.{Bound}
 use Rattle.keys.specs.declared.bounds.OwnedBounds.{OwnedBounds}
 use Rattle.keys.specs.Bounds.{starts_by, ends_by, within}
 use Rattle.keys.specs.KeyRange.{meets, inside, wider}

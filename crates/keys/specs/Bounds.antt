@@ -3,8 +3,8 @@ use Rattle.std.specs.Prelude.{Bool, true, not, ◌&&◌}
 use Rattle.std.specs.declared.cmp.Ordering.{Ordering}
 use Rattle.std.specs.Ordering.{is_lt}
 use Rattle.keys.specs.declared.key_range.KeyRange.{KeyRange}
-use Rattle.keys.specs.declared.bounds.Bound.{Bound}
-use Rattle.keys.specs.declared.bounds.Bound.TheVariants.{Unbounded, Included, Excluded}
+use Rattle.std.specs.declared.ops.Bound.{Bound}
+use Rattle.std.specs.declared.ops.Bound.TheVariants.{Unbounded, Included, Excluded}
 use Rattle.keys.specs.declared.bounds.OwnedBounds.{OwnedBounds}
 
 module _ {K : Type 0} (cmp : K → K → Ordering) where

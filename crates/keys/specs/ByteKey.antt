@@ -1,18 +1,14 @@
 -- The order of byte keys: byte by byte, a prefix first.
-use Rattle.std.specs.Prelude.{ℕ, List, [], ◌∷◌, take, Ok, Err, Result}
-use Rattle.std.specs.declared.cmp.Ordering.TheVariants.{Less, Equal, Greater}
+use Rattle.std.specs.Prelude.{ℕ, List, take, Ok, Err, Result}
 use Rattle.std.specs.declared.cmp.Ordering.{Ordering}
-use Rattle.std.specs.Ordering.{ordering_then}
+use Rattle.std.specs.Ordering.{nat_cmp}
+use Rattle.std.specs.Cmp.Lexicographic.{slice_cmp}
 use Rattle.refusals.specs.declared.refusal.Refusal.{Refusal}
-use Rattle.keys.specs.KeyKind.{by_number}
 use Rattle.keys.specs.declared.byte_key.ByteKey.{ByteKey}
 
 -- The first bytes that differ decide; where one string ends first, it is before.
 abbrev pub lex : List ℕ → List ℕ → Ordering
-lex [] [] = Equal
-lex [] (y ∷ ys) = Less
-lex (x ∷ xs) [] = Greater
-lex (x ∷ xs) (y ∷ ys) = ordering_then (by_number x y) (lex xs ys)
+lex = slice_cmp nat_cmp
 
 -- the bytes of a key
 abbrev pub held : ByteKey → List ℕ

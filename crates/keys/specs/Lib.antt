@@ -4,4 +4,3 @@ pub mod KeyKind
 pub mod KeyRange
 pub mod Pairing
 pub mod StopKey
-pub mod Lexes

@@ -2,8 +2,8 @@
 use Rattle.std.specs.Prelude.{◌≡◌, List, [], ◌∷◌}
 use Rattle.std.specs.declared.cmp.Ordering.{Ordering}
 use Rattle.keys.specs.declared.key_range.KeyRange.{KeyRange}
-use Rattle.keys.specs.declared.bounds.Bound.{Bound}
-use Rattle.keys.specs.declared.bounds.Bound.TheVariants.{Unbounded, Included, Excluded}
+use Rattle.std.specs.declared.ops.Bound.{Bound}
+use Rattle.std.specs.declared.ops.Bound.TheVariants.{Unbounded, Included, Excluded}
 use Rattle.keys.specs.declared.bounds.OwnedBounds.{OwnedBounds}
 
 -- two lists pair place by place

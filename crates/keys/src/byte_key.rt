@@ -4,6 +4,7 @@ ghost use Rattle.std.specs.Prelude.{◌≡◌, ◌-◌, ◌≤◌, drop, replica
 pub mod order;
 
 /// A key of 0 to 32 bytes, compared byte by byte, a prefix first.
+// The bytes stand in the key itself, beside how many they are: a key is copied, and no key is on the heap.
 #[derive(Clone, Copy)]
 pub struct ByteKey {
     bytes: [u8; 32],

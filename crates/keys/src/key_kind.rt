@@ -6,6 +6,7 @@ ghost use Rattle.keys.specs.KeyKind.{Laws};
 use std::cmp::Ordering;
 
 /// What serves as a key.
+// Not `Ord`, which would ask for an equality beside the order, and that it holds just where the order answers equal.
 pub trait KeyKind: Copy {
     // The answer of the order at two keys.
     ghost ranks: { Self → Self → Ordering };

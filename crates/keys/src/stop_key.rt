@@ -1,13 +1,14 @@
 //! A stop of a tour.
 ghost use Rattle.std.specs.Prelude.{◌≡◌};
-ghost use Rattle.keys.specs.StopKey.{stop_ranks};
 ghost use Rattle.std.proofs.Common.{rules};
+ghost use Rattle.std.specs.Cmp.Rules.{comparing};
+ghost use Rattle.keys.specs.StopKey.{stop_ranks};
 
 use crate::key_kind::KeyKind;
 use std::cmp::Ordering;
 
-/// A tour number, then a stop number.
-#[derive(Clone, Copy)]
+/// A tour number, then a stop number. The derived order goes by the fields as they stand.
+#[derive(Clone, Copy, PartialEq, Eq, PartialOrd, Ord)]
 pub struct StopKey {
     pub tour: u32,
     pub stop: u32,
@@ -16,19 +17,9 @@ pub struct StopKey {
 impl KeyKind for StopKey {
     ghost ranks = { stop_ranks };
 
-    ghost total = { Prim.search rules };
+    ghost total = { Prim.search (comparing, rules) };
 
     fn compare(&self, other: &StopKey) -> Ordering {
-        if self.tour < other.tour {
-            Ordering::Less
-        } else if other.tour < self.tour {
-            Ordering::Greater
-        } else if self.stop < other.stop {
-            Ordering::Less
-        } else if other.stop < self.stop {
-            Ordering::Greater
-        } else {
-            Ordering::Equal
-        }
+        self.cmp(other)
     }
 }

@@ -1,5 +1,6 @@
 -- What leveled is set to: how settings are made, and their limits.
-use Rattle.std.specs.Prelude.{ℕ, ◌^◌, Bool, true, cond, ◌&&◌, List, [], ◌∷◌, ◌++◌, length, take, replicate, Ok, Err, Result, nat_le, Float}
+use Rattle.std.specs.Prelude.{ℕ, ◌^◌, Bool, cond, ◌&&◌, List, [], ◌∷◌, ◌++◌, length, take, replicate, Ok, Err, Result, nat_le, Float}
+use Rattle.std.specs.List.{list_all}
 use Rattle.std.specs.Float.Ieee.{le}
 use Rattle.refusals.specs.declared.refusal.Refusal.{Refusal}
 use Rattle.refusals.specs.declared.refusal.Refusal.TheVariants.{BadSetting}
@@ -36,8 +37,7 @@ allowed x = le (single 1) x && le x (single 1000)
 
 -- every ratio is allowed
 abbrev pub all_allowed : List Float → Bool
-all_allowed [] = true
-all_allowed (r ∷ rs) = allowed r && all_allowed rs
+all_allowed = list_all allowed
 
 -- a target size from 1 to 2 ^ 40, a threshold from 1 to 255, and at most five ratios, each allowed
 abbrev pub in_limits : Settings → Bool

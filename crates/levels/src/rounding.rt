@@ -4,6 +4,8 @@ ghost use Rattle.std.specs.Float.Ieee as Ieee;
 ghost use Rattle.std.specs.Float.Ieee.Nearest.{closest};
 ghost use Rattle.levels.specs.Rounding.{single, rounded};
 
+use std::cmp::Ordering;
+
 /// A number of at most 24 binary digits, times a power of two.
 #[derive(Clone, Copy)]
 pub struct Rounded {
@@ -51,11 +53,9 @@ fn nearest_multiple(x: u64, unit: u64) -> u64
 {
     let whole = x / unit;
     let twice = x % unit * 2;
-    if twice < unit {
-        whole
-    } else if twice == unit {
-        whole + whole % 2
-    } else {
-        whole + 1
+    match twice.cmp(&unit) {
+        Ordering::Less => whole,
+        Ordering::Equal => whole + whole % 2,
+        Ordering::Greater => whole + 1,
     }
 }

@@ -49,8 +49,8 @@ fn highest(scores: &[f64; 7]) -> usize
     ensures within { result < 7 }
 {
     let mut best = 0;
-    for i in 0..7 {
-        if scores[best] <= scores[i] {
+    for (i, score) in scores.iter().enumerate() {
+        if scores[best] <= *score {
             best = i;
         }
     }

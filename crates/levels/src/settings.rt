@@ -8,6 +8,7 @@ use refusals::refusal::Refusal;
 const MAX_TARGET_SIZE: u64 = 1_099_511_627_776;
 
 /// The settings of leveled. Any value can be written here; `check` refuses those outside the limits.
+// Five places and a count in place of a list: settings are copied, and the library has no heap.
 #[derive(Clone, Copy)]
 pub struct Settings {
     /// The target size of a table in bytes, from 1 to 2^40.
@@ -70,20 +71,17 @@ impl Settings {
 
     // The ratios that are given.
     pub(crate) fn level_ratio_policy(&self) -> &[f32]
-        requires { self.now.given ≤ 5 }
         ensures { result.now ≡ ratios_of self.now }
     {
-        &self.ratios[0..self.given]
+        &self.ratios[..self.given.min(5)]
     }
 
     /// Refuses settings outside their limits, and ratios that are no number.
     pub fn check(&self) -> Result<(), Refusal>
         ensures { result ≡ checked self.now }
     {
-        if 1 <= self.target_size
-            && self.target_size <= MAX_TARGET_SIZE
-            && 1 <= self.threshold
-            && self.threshold <= 255
+        if (1..=MAX_TARGET_SIZE).contains(&self.target_size)
+            && (1..=255).contains(&self.threshold)
             && self.given <= 5
             && are_allowed(self.level_ratio_policy())
         {
@@ -98,12 +96,7 @@ impl Settings {
 fn are_allowed(ratios: &[f32]) -> bool
     ensures { result ≡ all_allowed ratios.now }
 {
-    for ratio in ratios {
-        if !is_allowed(*ratio) {
-            return false;
-        }
-    }
-    true
+    ratios.iter().all(|ratio| is_allowed(*ratio))
 }
 
 // Whether a ratio is within its limits. No comparison with a NaN holds.

@@ -40,11 +40,5 @@ impl Settings {
 fn ratio_at(ratios: &[f32], i: usize) -> f32
     ensures { result ≡ ratio_at ratios.now i }
 {
-    if i < ratios.len() {
-        ratios[i]
-    } else if ratios.len() > 0 {
-        ratios[ratios.len() - 1]
-    } else {
-        10.0
-    }
+    ratios.get(i).or(ratios.last()).copied().unwrap_or(10.0)
 }

@@ -3,7 +3,7 @@ ghost use Rattle.std.specs.Prelude.{◌≡◌};
 ghost use Rattle.refusals.specs.Refusal.{number_of, layer_of, place_of, letter_of};
 
 /// Why a call was refused. A case with a number has the place at fault.
-#[derive(Clone, Copy)]
+#[derive(Clone, Copy, PartialEq, Eq, Debug)]
 pub enum Refusal {
     /// Book or sheet is not sound, or a run is not a run.
     NotSound,
@@ -36,7 +36,7 @@ pub enum Refusal {
 }
 
 /// The layer that refuses.
-#[derive(Clone, Copy)]
+#[derive(Clone, Copy, PartialEq, Eq, Debug)]
 pub enum Layer {
     /// The job book.
     Book,
@@ -102,10 +102,10 @@ impl Refusal {
         ensures { result ≡ place_of self }
     {
         match self {
-            Refusal::BadTable(at) => at,
-            Refusal::BadOutputs(at) => at,
-            Refusal::HiddenTable(at) => at,
-            Refusal::AlreadyHidden(at) => at,
+            Refusal::BadTable(at)
+            | Refusal::BadOutputs(at)
+            | Refusal::HiddenTable(at)
+            | Refusal::AlreadyHidden(at) => at,
             Refusal::KeyTooLong => 32,
             _ => 0,
         }

@@ -1,36 +1,68 @@
 -- What the definitions of runs give, one table further.
-use Rattle.std.proofs.Common.{◌≡◌, ℕ, ◌+◌, ◌-◌, ◌<◌, ◌≤◌, Bool, true, false, cond, not, ◌&&◌, List, [], ◌∷◌, length, get_or, take, drop, Ok, Err, count_by, filter, Result, Ordering, sym, refl, ap, ◌∙◌, inl, inr}
-use Rattle.std.proofs.lemmas.List.{drop_more, drop_all}
+use Rattle.std.proofs.Common.{◌≡◌, ℕ, zero, suc, ◌+◌, ◌-◌, ◌<◌, ◌≤◌, Bool, true, false, cond, not, ◌&&◌, List, [], ◌∷◌, length, get_or, take, drop, count_by, filter, Bor, Ordering, sym, refl, ap, ◌∙◌, inl, inr, arith}
+use Rattle.std.proofs.lemmas.List.{drop_more}
 use Rattle.std.specs.Ordering.{is_lt}
 use Rattle.keys.specs.declared.key_range.KeyRange.{KeyRange}
-use Rattle.std.specs.List.{AllByRecursion}
-use Rattle.std.proofs.lemmas.Bool.{and_parts, not-true, not-false, cases_Bool, both_ways}
-use Rattle.runs.specs.declared.search.End.{End}
-use Rattle.runs.specs.declared.search.End.TheVariants.{Min, Max}
-use Rattle.runs.specs.declared.search.Reach.{Reach}
-use Rattle.runs.specs.declared.search.Reach.TheVariants.{Before, UpTo}
+use Rattle.std.specs.List.{AllByRecursion, list_all, AllAdjacentBelow, IsAllAdjacentAnswer}
+use Rattle.std.specs.List.Sorted.{IsPartitionPoint, IsPartitionedBy}
+use Rattle.std.specs.Fn.{ComputesKey, Called, Mut}
+use Rattle.std.proofs.lemmas.List.Sorted.{IsPartitionPoint-from_clause}
+use Rattle.std.proofs.lemmas.Bool.{and_parts, and_from, not-true, not-false, cases_Bool, both_ways}
 use Rattle.keys.specs.KeyKind.{Laws}
-use Rattle.runs.specs.Run.{apart, sorted, Part, overlapping, contained}
-use Rattle.runs.specs.Search.{end_of, reaches, passed}
-use Rattle.keys.specs.KeyRange.{meets, inside}
-use Rattle.refusals.specs.declared.refusal.Refusal.{Refusal}
-use Rattle.refusals.specs.declared.refusal.Refusal.TheVariants.{NotSound}
-use Rattle.runs.proofs.Falls.{Falls, count_no, kept_between}
+use Rattle.runs.specs.Run.{apart, sorted}
+use Rattle.runs.specs.Search.{End, Min, Max, Reach, Before, UpTo, end_of, reaches, passed}
+use Rattle.runs.proofs.Falls.{Falls, count_no, kept_between, falls_partitioned, point_is_count}
 use Rattle.keys.proofs.Orders.{lt_chain, lt_le, le_lt}
 
 -- what is left of a list, where x stands at i
 pub drop_read : {T : Type 0} (ts : List T) (i : ℕ) (t : T) → i < length ts → t ≡ get_or ts i t → drop i ts ≡ t ∷ drop (i + 1) ts
 drop_read ts i t h e = drop_more ts i t h ∙ ap (λ u. u ∷ drop (i + 1) ts) (sym e)
 
-module _ {K T : Type 0} (cmp : K → K → Ordering) (spans : T → KeyRange K) (ts : List T) (i : ℕ) (t : T) (within : i < length ts) (read : t ≡ get_or ts i t) where
-  pub sorted_at : sorted cmp spans (drop i ts) ≡ (not (is_lt (cmp (spans t).max (spans t).min)) && (apart cmp spans (spans t).max (drop (i + 1) ts) && sorted cmp spans (drop (i + 1) ts)))
-  sorted_at = ap (sorted cmp spans) (drop_read ts i t within read)
+and_no : (b : Bool) → (b && false) ≡ false
+and_no true = refl
+and_no false = refl
 
-  pub apart_at : (u : T) → i + 1 < length ts → u ≡ get_or ts (i + 1) u → apart cmp spans (spans t).max (drop (i + 1) ts) ≡ is_lt (cmp (spans t).max (spans u).min)
-  apart_at u h e = ap (apart cmp spans (spans t).max) (drop_read ts (i + 1) u h e)
+four : (o a l f : Bool) → ((o && l) && (a && f)) ≡ (o && (a && (l && f)))
+four true true l f = refl
+four true false true f = refl
+four true false false f = refl
+four false a l f = refl
 
-  pub apart_end : length ts ≤ i + 1 → apart cmp spans (spans t).max (drop (i + 1) ts) ≡ true
-  apart_end h = ap (apart cmp spans (spans t).max) (drop_all (i + 1) ts h)
+module _ {K T : Type 0} (cmp : K → K → Ordering) (spans : T → KeyRange K) where
+  abbrev pub is_range : T → Bool
+  is_range t = not (is_lt (cmp (spans t).max (spans t).min))
+
+  abbrev pub precedes : T → T → Bool
+  precedes t u = is_lt (cmp (spans t).max (spans u).min)
+
+  -- each table ends before the next begins
+  abbrev pub follow : List T → Bool
+  follow [] = true
+  follow (t ∷ ts) = apart cmp spans (spans t).max ts && follow ts
+
+  pub sorted_parts : (ts : List T) → (list_all is_range ts && follow ts) ≡ sorted cmp spans ts
+  sorted_parts [] = refl
+  sorted_parts (t ∷ ts) =
+      four (is_range t) (apart cmp spans (spans t).max ts) (list_all is_range ts) (follow ts)
+      ∙ ap (λ b. is_range t && (apart cmp spans (spans t).max ts && b)) (sorted_parts ts)
+
+  shifted : (t : T) (ts : List T) (k : ℕ) (d : T) → precedes (get_or (t ∷ ts) (suc k) d) (get_or (t ∷ ts) (suc k + 1) d) ≡ precedes (get_or ts k d) (get_or ts (k + 1) d)
+  shifted t ts k d = ap (λ n. precedes (get_or ts k d) (get_or (t ∷ ts) n d)) (let e : suc k + 1 ≡ suc (k + 1) = omega arith in e)
+
+  follow_all : (ts : List T) → AllAdjacentBelow (λ t u. true ≡ precedes t u) ts (length ts) → follow ts ≡ true
+  follow_all [] a = refl
+  follow_all (t ∷ []) a = refl
+  follow_all (t ∷ u ∷ us) a = and_from (precedes t u) (follow (u ∷ us)) (sym (a 0 t (omega arith))) (follow_all (u ∷ us) (λ k d h. a (suc k) d (omega arith) ∙ shifted t (u ∷ us) k d))
+
+  follow_not : (ts : List T) (k : ℕ) → k + 1 < length ts → ((d : T) → false ≡ precedes (get_or ts k d) (get_or ts (k + 1) d)) → follow ts ≡ false
+  follow_not [] k h a = absurd (omega arith)
+  follow_not (t ∷ []) k h a = absurd (omega arith)
+  follow_not (t ∷ u ∷ us) zero h a = ap (λ b. b && follow (u ∷ us)) (sym (a t))
+  follow_not (t ∷ u ∷ us) (suc k) h a = ap (λ b. precedes t u && b) (follow_not (u ∷ us) k (omega arith) (λ d. a d ∙ shifted t (u ∷ us) k d)) ∙ and_no (precedes t u)
+
+  pub neighbours_follow : (ts : List T) (b : Bool) → IsAllAdjacentAnswer (λ t u a. a ≡ precedes t u) ts b → b ≡ follow ts
+  neighbours_follow ts true a = sym (follow_all ts a)
+  neighbours_follow ts false a = sym (follow_not ts a.0 a.1 a.2)
 
 module _ {K T : Type 0} {cmp : K → K → Ordering} (laws : Laws cmp) (spans : T → KeyRange K) where
   at_end : (key : K) (t : T) → is_lt (cmp key (spans t).min) ≡ true → is_lt (cmp key (spans t).max) ≡ true → (e : End) → is_lt (cmp key (end_of e (spans t))) ≡ true
@@ -86,25 +118,22 @@ module _ {K T : Type 0} {cmp : K → K → Ordering} (laws : Laws cmp) (spans : 
   sorted_falls e r key (t ∷ ts) q =
       (λ n. none_passed e r key (end_of e (spans t)) ts n (end_behind t ts q e), sorted_falls e r key ts (sorted_rest t ts q))
 
-abbrev handed : {T : Type 0} → ℕ → List T → Result (Part T) Refusal
-handed n us = Ok (record { place = n; tables = us })
+  -- the place that a search with the test finds in a run
+  pub counts_passed : (e : End) (r : Reach) (key : K) (ts : List T) → sorted cmp spans ts ≡ true → {F : Type 0} {g : Mut F (Bor T × Unit {0}) Bool} {f : F} (n : ℕ) → n ≤ length ts
+      → ((q : T → Bool) → ComputesKey g q f → IsPartitionedBy q ts → IsPartitionPoint (λ t. q t ≡ true) (λ t. q t ≡ false) ts n)
+      → ((a : Bor T × Unit {0}) (b : Bool) (f' : F) → Called g f a b f' → (b ≡ passed cmp spans e r key a.0.now) × (f' ≡ f))
+      → n ≡ count_by (passed cmp spans e r key) ts
+  counts_passed e r key ts q {F} {g} {f} n h clause calls =
+      let p = passed cmp spans e r key in
+      let falls = sorted_falls e r key ts q in
+      point_is_count p ts n falls h (IsPartitionPoint-from_clause p {g = g} ts n clause (falls_partitioned p ts falls) calls)
 
--- what was cut out between two counts is what the question asks for
-module _ {K T : Type 0} {cmp : K → K → Ordering} (laws : Laws cmp) (spans : T → KeyRange K) (range : KeyRange K) (ts : List T) (ok : sorted cmp spans ts ≡ true) (place end at : ℕ) (us : List T) (is_place : at ≡ place) (is_cut : us ≡ take (end - place) (drop place ts)) where
-  counted : (p q : T → Bool) → Falls p ts → Falls q ts → place ≡ count_by p ts → end ≡ count_by q ts → handed at us ≡ handed (count_by p ts) (filter (λ t. not (p t) && q t) ts)
-  counted p q fp fq ep eq =
-      let cut : take (end - place) (drop place ts) ≡ take (count_by q ts - count_by p ts) (drop (count_by p ts) ts) =
-      ap (λ n. take (n - place) (drop place ts)) eq ∙ ap (λ n. take (count_by q ts - n) (drop n ts)) ep in
-      ap (λ n. handed n us) (is_place ∙ ep) ∙ ap (handed (count_by p ts)) (is_cut ∙ cut ∙ sym (kept_between p q ts fp fq))
-
-  pub is_overlapping : place ≡ count_by (passed cmp spans Max Before range.min) ts → end ≡ count_by (passed cmp spans Min UpTo range.max) ts
-      → ◌≡◌ {A = Result (Part T) Refusal} (Ok (record { place = at; tables = us })) (overlapping cmp spans range ts)
-  is_overlapping ep eq =
-      counted (passed cmp spans Max Before range.min) (passed cmp spans Min UpTo range.max) (sorted_falls laws spans Max Before range.min ts ok) (sorted_falls laws spans Min UpTo range.max ts ok) ep eq
-      ∙ sym (ap (λ b. cond b (handed (count_by (λ t. is_lt (cmp (spans t).max range.min)) ts) (filter (λ t. meets cmp (spans t) range) ts)) (Err NotSound)) ok)
-
-  pub is_contained : place ≡ count_by (passed cmp spans Min Before range.min) ts → end ≡ count_by (passed cmp spans Max UpTo range.max) ts
-      → ◌≡◌ {A = Result (Part T) Refusal} (Ok (record { place = at; tables = us })) (contained cmp spans range ts)
-  is_contained ep eq =
-      counted (passed cmp spans Min Before range.min) (passed cmp spans Max UpTo range.max) (sorted_falls laws spans Min Before range.min ts ok) (sorted_falls laws spans Max UpTo range.max ts ok) ep eq
-      ∙ sym (ap (λ b. cond b (handed (count_by (λ t. is_lt (cmp (spans t).min range.min)) ts) (filter (λ t. inside cmp range (spans t)) ts)) (Err NotSound)) ok)
+  -- what was cut out of a run between the tables that passed one key and those that are up to another
+  pub cut_between : (e f : End) (low high : K) (ts : List T) → sorted cmp spans ts ≡ true → (place end : ℕ) (us : List T) → us ≡ take (end - place) (drop place ts)
+      → place ≡ count_by (passed cmp spans e Before low) ts → end ≡ count_by (passed cmp spans f UpTo high) ts
+      → us ≡ filter (λ t. not (passed cmp spans e Before low t) && passed cmp spans f UpTo high t) ts
+  cut_between e f low high ts ok place end us is_cut ep eq =
+      let p = passed cmp spans e Before low in
+      let q = passed cmp spans f UpTo high in
+      is_cut ∙ ap (λ n. take (n - place) (drop place ts)) eq ∙ ap (λ n. take (count_by q ts - n) (drop n ts)) ep
+      ∙ sym (kept_between p q ts (sorted_falls e Before low ts ok) (sorted_falls f UpTo high ts ok))

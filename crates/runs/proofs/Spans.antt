@@ -1,12 +1,10 @@
 -- The span of a run goes from the min of its first table to the max of its last; a part of a run is a run.
-use Rattle.std.proofs.Common.{◌≡◌, ℕ, zero, suc, ◌-◌, ◌<◌, true, false, cond, not, ◌&&◌, List, [], ◌∷◌, length, get_or, take, drop, Some, Ok, Err, Option, Result, Ordering, sym, refl, ap, ◌∙◌, arith}
-use Rattle.refusals.specs.declared.refusal.Refusal.{Refusal}
-use Rattle.refusals.specs.declared.refusal.Refusal.TheVariants.{NotSound}
+use Rattle.std.proofs.Common.{◌≡◌, ℕ, zero, suc, ◌-◌, ◌<◌, true, false, cond, not, ◌&&◌, List, [], ◌∷◌, length, get_or, take, drop, Some, Option, Ordering, sym, refl, ap, ◌∙◌, arith}
 use Rattle.std.specs.Ordering.{is_lt, ordering_reverse}
 use Rattle.std.proofs.lemmas.Bool.{and_parts, and_from, not-true}
 use Rattle.keys.specs.declared.key_range.KeyRange.{KeyRange}
 use Rattle.keys.specs.KeyKind.{Laws}
-use Rattle.runs.specs.Run.{apart, sorted, widened, span_of, aggregated}
+use Rattle.runs.specs.Run.{apart, sorted, widened, span_of}
 use Rattle.keys.proofs.Orders.{less_from, lt_le, le_lt}
 use Rattle.runs.proofs.Sorteds.{sorted_rest}
 use Rattle.keys.specs.KeyRange.{wider}
@@ -72,12 +70,11 @@ last_read t (u ∷ us) d = ap (λ n. get_or (t ∷ u ∷ us) n d) (let e : suc (
 
 module _ {K T : Type 0} {cmp : K → K → Ordering} (laws : Laws cmp) (spans : T → KeyRange K) where
   -- the min of the first range and the max of the last, as they were read, are the span
-  pub is_aggregated : (ts : List T) (low high : KeyRange K) (d e : T) → 0 < length ts → sorted cmp spans ts ≡ true
+  pub is_span : (ts : List T) (low high : KeyRange K) (d e : T) → 0 < length ts → sorted cmp spans ts ≡ true
       → low ≡ spans (get_or ts 0 d) → high ≡ spans (get_or ts (length ts - 1) e)
-      → ◌≡◌ {A = Result (Option (KeyRange K)) Refusal} (Ok (Some (range low.min high.max))) (aggregated cmp spans ts)
-  is_aggregated [] low high d e h q p r = absurd (omega arith)
-  is_aggregated (t ∷ ts) low high d e h q p r =
-      ap (λ u. Ok (Some (range u.min high.max))) p
-      ∙ ap (λ u. Ok (Some (range (spans t).min u.max))) (r ∙ ap spans (last_read t ts e))
-      ∙ ap (λ u. Ok (Some u)) (sym (span_is laws spans t ts q))
-      ∙ sym (ap (λ b. cond b (Ok (span_of cmp spans (t ∷ ts))) (Err NotSound)) q)
+      → ◌≡◌ {A = Option (KeyRange K)} (Some (range low.min high.max)) (span_of cmp spans ts)
+  is_span [] low high d e h q p r = absurd (omega arith)
+  is_span (t ∷ ts) low high d e h q p r =
+      ap (λ u. Some (range u.min high.max)) p
+      ∙ ap (λ u. Some (range (spans t).min u.max)) (r ∙ ap spans (last_read t ts e))
+      ∙ sym (ap Some (span_is laws spans t ts q))

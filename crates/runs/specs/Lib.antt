@@ -1,3 +1,4 @@
+pub mod Fresh
 pub mod Pairing
 pub mod Run
 pub mod Search

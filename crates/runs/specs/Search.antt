@@ -1,12 +1,18 @@
--- What a search in a run counts.
+-- What a search in a run counts: the tables of which an end lies before a key, or up to it.
 use Rattle.std.specs.Prelude.{Bool, not}
 use Rattle.std.specs.declared.cmp.Ordering.{Ordering}
 use Rattle.std.specs.Ordering.{is_lt}
 use Rattle.keys.specs.declared.key_range.KeyRange.{KeyRange}
-use Rattle.runs.specs.declared.search.End.{End}
-use Rattle.runs.specs.declared.search.End.TheVariants.{Min, Max}
-use Rattle.runs.specs.declared.search.Reach.{Reach}
-use Rattle.runs.specs.declared.search.Reach.TheVariants.{Before, UpTo}
+
+-- which end of a range is looked at
+pub data End : Type 0 where
+  Min : End
+  Max : End
+
+-- whether it is to lie before a key, or may be equal to it
+pub data Reach : Type 0 where
+  Before : Reach
+  UpTo : Reach
 
 abbrev pub end_of : {K : Type 0} → End → KeyRange K → K
 end_of Min r = r.min
@@ -20,3 +26,20 @@ reaches cmp UpTo key x = not (is_lt (cmp key x))
 -- an end of a table's range lies before the key, or up to it
 abbrev pub passed : {K T : Type 0} → (K → K → Ordering) → (T → KeyRange K) → End → Reach → K → T → Bool
 passed cmp spans end reach key t = reaches cmp reach key (end_of end (spans t))
+
+module _ {K T : Type 0} (cmp : K → K → Ordering) (spans : T → KeyRange K) (key : K) (t : T) where
+  -- a table ends before the key
+  abbrev pub ends_before : Bool
+  ends_before = is_lt (cmp (spans t).max key)
+
+  -- a table ends with the key or before
+  abbrev pub ends_by : Bool
+  ends_by = not (is_lt (cmp key (spans t).max))
+
+  -- a table begins before the key
+  abbrev pub begins_before : Bool
+  begins_before = is_lt (cmp (spans t).min key)
+
+  -- a table begins with the key or before
+  abbrev pub begins_by : Bool
+  begins_by = not (is_lt (cmp key (spans t).min))

@@ -1,7 +1,9 @@
 //! A table that is to come in: it has no level and no run yet.
 ghost use Rattle.std.specs.Prelude.{◌≡◌};
+ghost use Rattle.runs.specs.Fresh.{settled};
 
 use crate::ranged::{Ranged, TableFile};
+use crate::table::Table;
 use keys::key_kind::KeyKind;
 use keys::key_range::KeyRange;
 
@@ -13,6 +15,30 @@ pub struct Fresh<K> {
     pub size: u64,
     pub created: u64,
     pub linked: u64,
+}
+
+impl<K: Copy> Fresh<K> {
+    /// The table at a level and run.
+    pub fn at(&self, level: u8, run: u16) -> Table<K>
+        ensures { result ≡ settled level run self.now }
+    {
+        let Fresh {
+            number,
+            range,
+            size,
+            created,
+            linked,
+        } = *self;
+        Table {
+            number,
+            level,
+            run,
+            range,
+            size,
+            created,
+            linked,
+        }
+    }
 }
 
 impl<K: KeyKind> Ranged for Fresh<K> {

@@ -4,5 +4,6 @@
 pub mod fresh;
 pub mod ranged;
 pub mod run;
-pub mod search;
+pub mod sizes;
+pub mod sorted_run;
 pub mod table;

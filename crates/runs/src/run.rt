@@ -1,9 +1,12 @@
-//! A run: tables in the order of their keys, of which no two meet.
-ghost use Rattle.std.specs.Prelude.{◌≡◌, ◌-◌, ◌≤◌, length, take, drop};
-ghost use Rattle.runs.specs.Run.{overlapping, contained, aggregated, shown, span_of};
+//! Tables that may be a run: in the order of their keys, and no two meet.
+ghost use Rattle.std.specs.Prelude.{◌≡◌, false, not, MatchResult};
+ghost use Rattle.std.specs.List.{list_all};
+ghost use Rattle.std.specs.Ordering.{is_lt};
+ghost use Rattle.refusals.specs.declared.refusal.Refusal.TheVariants.{NotSound};
+ghost use Rattle.runs.specs.Run.{sorted, overlapping, contained, aggregated, shown, span_of};
 
 use crate::ranged::Ranged;
-use crate::search::{End, Reach, is_sorted, partition_point};
+use crate::sorted_run::SortedRun;
 use keys::key_kind::KeyKind;
 use keys::key_range::KeyRange;
 use refusals::refusal::Refusal;
@@ -21,70 +24,76 @@ pub struct Stretch<'a, T> {
     pub tables: &'a [T],
 }
 
-// The tables from a place to an end, none if the end lies before the place.
-fn cut<T>(tables: &[T], place: usize, end: usize) -> Stretch<'_, T>
-    requires { (place ≤ length tables.now) × (end ≤ length tables.now) }
-    ensures place { result.place ≡ place }
-    ensures tables { result.tables.now ≡ take (end - place) (drop place tables.now) }
-{
-    let tables = &tables[place..end.max(place)];
-    Stretch { place, tables }
-}
-
 impl<'a, T: Ranged> Run<'a, T> {
+    /// The same tables, known to be a run.
+    pub fn sorted(self) -> Result<SortedRun<'a, T>, Refusal>
+        ensures { MatchResult result (λ r. r.tables ≡ self.entry.tables) (λ e. (e ≡ NotSound) × (sorted T.Key.ranks T.spans self.entry.tables.now ≡ false)) }
+    {
+        let tables = self.tables;
+        if is_sorted(tables) {
+            Ok(SortedRun { tables })
+        } else {
+            Err(Refusal::NotSound)
+        }
+    }
+
     /// The stretch of the run that meets the range.
     pub fn get_overlapping(self, range: &KeyRange<T::Key>) -> Result<Stretch<'a, T>, Refusal>
         ensures { shown result ≡ overlapping T.Key.ranks T.spans range.now self.entry.tables.now }
     {
-        if !is_sorted(self.tables) {
-            return Err(Refusal::NotSound);
-        }
-        let place = partition_point(self.tables, End::Max, Reach::Before, &range.min);
-        let end = partition_point(self.tables, End::Min, Reach::UpTo, &range.max);
-        Ok(cut(self.tables, place, end))
+        Ok(self.sorted()?.overlapping(range))
     }
 
     /// The stretch of the run that lies inside the range.
     pub fn get_contained(self, range: &KeyRange<T::Key>) -> Result<Stretch<'a, T>, Refusal>
         ensures { shown result ≡ contained T.Key.ranks T.spans range.now self.entry.tables.now }
     {
-        if !is_sorted(self.tables) {
-            return Err(Refusal::NotSound);
-        }
-        let place = partition_point(self.tables, End::Min, Reach::Before, &range.min);
-        let end = partition_point(self.tables, End::Max, Reach::UpTo, &range.max);
-        Ok(cut(self.tables, place, end))
+        Ok(self.sorted()?.contained(range))
     }
 
     /// The span of the run, none where the run is empty: where the first table begins to where the last ends.
     pub fn aggregate_key_range(self) -> Result<Option<KeyRange<T::Key>>, Refusal>
         ensures { result ≡ aggregated T.Key.ranks T.spans self.entry.tables.now }
     {
-        if !is_sorted(self.tables) {
-            return Err(Refusal::NotSound);
-        }
-        if self.tables.len() == 0 {
-            return Ok(None);
-        }
-        let first = self.tables[0].key_range();
-        let last = self.tables[self.tables.len() - 1].key_range();
-        Ok(Some(KeyRange {
-            min: first.min,
-            max: last.max,
-        }))
+        Ok(self.sorted()?.key_range())
     }
+}
+
+/// Whether no max is before its min, and each table ends before the next begins.
+pub fn is_sorted<T: Ranged>(tables: &[T]) -> bool
+    ensures { result ≡ sorted T.Key.ranks T.spans tables.now }
+{
+    are_ranges(tables) && tables.is_sorted_by(|t, u| precedes(t, u))
+}
+
+// Whether no max is before its min.
+fn are_ranges<T: Ranged>(tables: &[T]) -> bool
+    ensures { result ≡ list_all (λ t. not (is_lt (T.Key.ranks (T.spans t).max (T.spans t).min))) tables.now }
+{
+    tables.iter().all(|t| {
+        let range = t.key_range();
+        !range.max.compare(&range.min).is_lt()
+    })
+}
+
+// Whether the first table ends before the second begins.
+fn precedes<T: Ranged>(first: &T, second: &T) -> bool
+    ensures { result ≡ is_lt (T.Key.ranks (T.spans first.now).max (T.spans second.now).min) }
+{
+    first
+        .key_range()
+        .max
+        .compare(&second.key_range().min)
+        .is_lt()
 }
 
 /// The span of any tables, in whatever order: from the least min to the greatest max.
 pub fn aggregate<T: Ranged>(tables: &[T]) -> Option<KeyRange<T::Key>>
     ensures { result ≡ span_of T.Key.ranks T.spans tables.now }
 {
-    if tables.len() == 0 {
-        return None;
-    }
-    let mut all = *tables[0].key_range();
-    for i in 1..tables.len() {
-        all = all.widen(tables[i].key_range());
-    }
-    Some(all)
+    let (first, rest) = tables.split_first()?;
+    Some(
+        rest.iter()
+            .fold(*first.key_range(), |all, t| all.widen(t.key_range())),
+    )
 }

@@ -1,11 +1,10 @@
 -- What is read behind a window, one step on.
-use Rattle.std.proofs.Common.{◌≡◌, ℕ, zero, suc, ◌+◌, ◌-◌, ◌<◌, ◌≤◌, true, eqb, [], ◌∷◌, ◌++◌, Some, sym, refl, ap, ◌∙◌, arith}
-use Rattle.std.proofs.lemmas.Bool.{cond-false, ne_eqb, and_from, lt-ltb, le-leb}
+use Rattle.std.proofs.Common.{◌≡◌, ℕ, zero, suc, ◌+◌, ◌-◌, ◌<◌, ◌≤◌, eqb, [], ◌∷◌, ◌++◌, Some, sym, refl, ap, ◌∙◌, arith}
+use Rattle.std.proofs.lemmas.Bool.{cond-false, ne_eqb}
 use Rattle.windows.specs.declared.slice_windows.Window.{Window}
 use Rattle.windows.specs.declared.slice_windows.Order.{Order}
 use Rattle.windows.specs.declared.slice_windows.Order.TheVariants.{Growing, Shrinking}
-use Rattle.windows.specs.declared.slice_windows.Summed.{Summed}
-use Rattle.windows.specs.SliceWindows.{win, from_left, of_length, growing_from, shrinking_from, Within, stands}
+use Rattle.windows.specs.SliceWindows.{win, from_left, of_length, growing_from, shrinking_from}
 use Rattle.windows.specs.Cursor.{next_lengths, behind, standing, first_window}
 
 row_more : (len s k j : ℕ) → k ≡ suc j → from_left len s k ≡ win s len ∷ from_left len (suc s) j
@@ -51,10 +50,3 @@ standing_shrinking n (suc k) b h =
     ap (standing Shrinking n) (first_some (suc k) b (omega arith))
     ∙ ap (λ ws. ws ++ shrinking_from n (suc k - 1)) (sym (row_first n (suc k) h))
     ∙ ap (λ j. of_length n (suc k) ++ shrinking_from n j) (let q : suc k - 1 ≡ k = omega arith in q)
-
-pub stands_within : (n : ℕ) (s : Summed) → Within n s.window → stands n (Some s) ≡ true
-stands_within n s h = and_from _ _ (lt-ltb _ _ h.some) (le-leb _ _ h.ends)
-
-pub stands_first : (n len b : ℕ) → len ≤ n → stands n (first_window len b) ≡ true
-stands_first n zero b h = refl
-stands_first n (suc k) b h = ap (stands n) (first_some (suc k) b (omega arith)) ∙ stands_within n (record { window = win 0 (suc k); bytes = b; front = b }) (record { some = omega arith; ends = omega arith })

@@ -1,5 +1,5 @@
 -- What a cursor over windows still has to read, and what its sums are.
-use Rattle.std.specs.Prelude.{◌≡◌, ℕ, suc, ◌+◌, ◌-◌, ◌^◌, ◌≤◌, cond, List, [], ◌∷◌, ◌++◌, length, take, Some, None, Ok, Err, sum_by, Option, Result, ◌==◌, nat_le}
+use Rattle.std.specs.Prelude.{◌≡◌, ℕ, suc, ◌+◌, ◌-◌, ◌^◌, ◌≤◌, cond, List, [], ◌∷◌, ◌++◌, length, drop, Some, None, Ok, Err, IfSome, sum_by, Option, Result, ◌==◌, nat_le}
 use Rattle.refusals.specs.declared.refusal.Refusal.{Refusal}
 use Rattle.refusals.specs.declared.refusal.Refusal.TheVariants.{NotSound}
 use Rattle.windows.specs.declared.slice_windows.Window.{Window}
@@ -8,7 +8,7 @@ use Rattle.windows.specs.declared.slice_windows.Order.TheVariants.{Growing, Shri
 use Rattle.windows.specs.declared.slice_windows.Summed.{Summed}
 use Rattle.windows.specs.declared.slice_windows.Windows.{Windows}
 use Rattle.windows.specs.declared.slice_windows.Reading.{Reading}
-use Rattle.windows.specs.SliceWindows.{win, tables_of, from_left, growing_from, shrinking_from}
+use Rattle.windows.specs.SliceWindows.{win, tables_of, from_left, growing_from, growing, shrinking_from, shrinking, Right}
 
 -- the windows of the lengths that are read behind a length
 abbrev pub next_lengths : Order → ℕ → ℕ → List Window
@@ -38,47 +38,51 @@ pub record Readable (T : Type 0) : Type 0 where
   pub tables : List T
   pub windows : List Window
 
-module _ {T : Type 0} where
+-- all windows of n tables, in the order of reading
+abbrev pub in_order : Order → ℕ → List Window
+in_order Growing n = growing n
+in_order Shrinking n = shrinking n
+
+-- the first of some windows, with its tables
+abbrev pub first_read : {T : Type 0} → List T → List Window → Option (Read T)
+first_read ts [] = None
+first_read ts (w ∷ ws) = Some (record { window = w; tables = tables_of w ts })
+
+-- what was read, but for its sum
+abbrev pub seen : {T : Type 0} → Option (Reading T) → Option (Read T)
+seen None = None
+seen (Some r) = Some (record { window = r.window; tables = r.tables.now })
+
+-- all these windows, unless the tables' sizes sum up to more than 2^53
+abbrev pub readable : {T : Type 0} → (T → ℕ) → List Window → List T → Result (Readable T) Refusal
+readable bytes ws ts = cond (nat_le (sum_by bytes ts) (2 ^ 53)) (Ok (record { tables = ts; windows = ws })) (Err NotSound)
+
+-- the sum of what was read, if anything, is that of its tables
+abbrev pub Told : {T : Type 0} → (T → ℕ) → Option (Reading T) → Type 0
+Told bytes None = Unit {0}
+Told bytes (Some r) = r.bytes ≡ sum_by bytes r.tables.now
+
+module _ {T K : Type 0} {file : _} {ranged : _} {key : _} where
   -- the windows that a cursor still has to read
-  abbrev pub left : Windows T → List Window
+  abbrev pub left : Windows T K file ranged key → List Window
   left c = standing c.order (length c.tables.now) c.next
 
   -- what a cursor has to read, or why there is none
-  abbrev pub opened : Result (Windows T) Refusal → Result (Readable T) Refusal
+  abbrev pub opened : Result (Windows T K file ranged key) Refusal → Result (Readable T) Refusal
   opened (Ok c) = Ok (record { tables = c.tables.now; windows = left c })
   opened (Err e) = Err e
 
-  -- all these windows, unless the tables' sizes sum up to more than 2^53
-  abbrev pub readable : (T → ℕ) → List Window → List T → Result (Readable T) Refusal
-  readable bytes ws ts = cond (nat_le (sum_by bytes ts) (2 ^ 53)) (Ok (record { tables = ts; windows = ws })) (Err NotSound)
-
-  -- what was read, but for its sum
-  abbrev pub seen : Option (Reading T) → Option (Read T)
-  seen None = None
-  seen (Some r) = Some (record { window = r.window; tables = r.tables.now })
-
-  -- the first of some windows, with its tables
-  abbrev pub first_read : List T → List Window → Option (Read T)
-  first_read ts [] = None
-  first_read ts (w ∷ ws) = Some (record { window = w; tables = tables_of w ts })
-
   module _ (bytes : T → ℕ) where
-    -- the sum of what was read, if anything, is that of its tables
-    abbrev pub Told : Option (Reading T) → Type 0
-    Told None = Unit {0}
-    Told (Some r) = r.bytes ≡ sum_by bytes r.tables.now
-
-    -- the two sums of a window are right
-    pub record Right (ts : List T) (s : Summed) : Type 0 where
-      pub window : s.bytes ≡ sum_by bytes (tables_of s.window ts)
-      pub front : s.front ≡ sum_by bytes (take s.window.len ts)
-
-    -- those of the next window, if any
-    abbrev pub RightNext : List T → Option Summed → Type 0
-    RightNext ts None = Unit {0}
-    RightNext ts (Some s) = Right ts s
-
     -- the sums of a cursor are right
-    pub record Weighed (c : Windows T) : Type 0 where
+    pub record Weighed (c : Windows T K file ranged key) : Type 0 where
       pub small : sum_by bytes c.tables.now ≤ 2 ^ 53
-      pub next : RightNext c.tables.now c.next
+      pub next : IfSome c.next (Right bytes c.tables.now)
+
+    -- the first window is read, and the others are left
+    pub record Reads (old : Windows T K file ranged key) (r : Option (Reading T)) (new : Windows T K file ranged key) : Type 0 where
+      pub answer : seen r ≡ first_read old.tables.now (left old)
+      pub rest : left new ≡ drop 1 (left old)
+      pub ended : left old ≡ [] → new ≡ old
+      pub tables : new.tables ≡ old.tables
+      pub order : new.order ≡ old.order
+      pub sums : Told bytes r

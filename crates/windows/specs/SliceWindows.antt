@@ -1,5 +1,5 @@
 -- Windows of n tables, in the two orders in which they are read.
-use Rattle.std.specs.Prelude.{◌≡◌, ℕ, zero, suc, ◌+◌, ◌-◌, ◌<◌, ◌≤◌, Bool, true, ◌&&◌, ◌⊎◌, List, [], ◌∷◌, ◌++◌, take, drop, Some, None, Option, nat_le, nat_lt}
+use Rattle.std.specs.Prelude.{◌≡◌, ℕ, zero, suc, ◌+◌, ◌-◌, ◌<◌, ◌≤◌, Bool, true, ◌&&◌, ◌⊎◌, List, [], ◌∷◌, ◌++◌, take, drop, Some, None, sum_by, Option, nat_le, nat_lt}
 use Rattle.std.specs.List.{ContainsAt, AllByRecursion}
 use Rattle.windows.specs.declared.slice_windows.Window.{Window}
 use Rattle.windows.specs.declared.slice_windows.Summed.{Summed}
@@ -67,3 +67,9 @@ pub record EachOnce (Kind : Window → Type 0) (Before : Window → Window → T
 abbrev pub stands : ℕ → Option Summed → Bool
 stands n None = true
 stands n (Some s) = nat_lt 0 s.window.len && nat_le (s.window.start + s.window.len) n
+
+module _ {T : Type 0} (bytes : T → ℕ) (ts : List T) where
+  -- the two sums of a window are right
+  pub record Right (s : Summed) : Type 0 where
+    pub window : s.bytes ≡ sum_by bytes (tables_of s.window ts)
+    pub front : s.front ≡ sum_by bytes (take s.window.len ts)

@@ -1,10 +1,12 @@
 //! Windows of a slice of tables, read one by one in two orders with their sums.
-ghost use Rattle.std.specs.Prelude.{◌≡◌, true, length};
-ghost use Rattle.windows.specs.SliceWindows.{stands};
+ghost use Rattle.std.specs.Prelude.{◌≡◌, ◌^◌, ◌≤◌, true, length, IfSome, sum_by};
+ghost use Rattle.std.proofs.Props.{props};
+ghost use Rattle.windows.specs.SliceWindows.{stands, Right};
 
 mod cursor;
 
 pub use cursor::{growing_windows, shrinking_windows};
+use runs::ranged::TableFile;
 
 /// A stretch of neighbours: how many tables stand before it, and how many it has.
 #[derive(Clone, Copy)]
@@ -32,12 +34,14 @@ struct Summed {
 
 /// The windows of a slice that are still to be read.
 #[derive(Drop)]
-pub struct Windows<'a, T> {
+pub struct Windows<'a, T: TableFile> {
     tables: &'a [T],
     order: Order,
     // The window that is read next, none behind the last.
     next: Option<Summed>,
     ghost within: { stands (length tables.now) next ≡ true },
+    ghost small: { sum_by T.bytes tables.now ≤ 2 ^ 53 },
+    ghost right: { IfSome next (Right T.bytes tables.now) } by { Prim.hlevel props },
 }
 
 /// A window that was read, with its tables and the sum of their sizes.

@@ -1,9 +1,10 @@
 //! How a byte key is made, and the order of byte keys.
 ghost use Rattle.std.specs.Prelude.{◌≡◌, length, if◌then◌else◌, Ok, Err, nat_lt};
-ghost use Rattle.std.proofs.Common.{ap};
+ghost use Rattle.std.specs.Cmp.{on_total};
+ghost use Rattle.std.specs.Cmp.Lexicographic.{nat_list_cmp_total};
 ghost use Rattle.refusals.specs.declared.refusal.Refusal.TheVariants.{KeyTooLong};
-ghost use Rattle.keys.specs.ByteKey.{byte_ranks, held, made, lex};
-ghost use Rattle.keys.specs.Lexes.{lex_flip, lex_chain, lex_equal};
+ghost use Rattle.keys.specs.ByteKey.{byte_ranks, held, made};
+ghost use Rattle.keys.specs.KeyKind.{laws_of};
 
 use super::ByteKey;
 use crate::key_kind::KeyKind;
@@ -34,38 +35,12 @@ impl ByteKey {
     }
 }
 
-// Byte by byte; where one ends first, it is before.
-fn lexical(a: &[u8], b: &[u8]) -> Ordering
-    ensures { result ≡ lex a.now b.now }
-{
-    let common = a.len().min(b.len());
-    for i in 0..common {
-        if a[i] < b[i] {
-            return Ordering::Less;
-        }
-        if b[i] < a[i] {
-            return Ordering::Greater;
-        }
-    }
-    if a.len() < b.len() {
-        Ordering::Less
-    } else if b.len() < a.len() {
-        Ordering::Greater
-    } else {
-        Ordering::Equal
-    }
-}
-
 impl KeyKind for ByteKey {
     ghost ranks = { byte_ranks };
 
-    ghost total = { record {
-      flips = λ a b. lex_flip (held a) (held b);
-      chains = λ a b c p q. lex_chain (held a) (held b) (held c) p q;
-      alike = λ a b c e. ap (λ xs. lex xs (held c)) (lex_equal (held a) (held b) e);
-    } };
+    ghost total = { laws_of (on_total held nat_list_cmp_total) };
 
     fn compare(&self, other: &ByteKey) -> Ordering {
-        lexical(self.as_slice(), other.as_slice())
+        self.as_slice().cmp(&other.as_slice())
     }
 }

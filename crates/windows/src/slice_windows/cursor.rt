@@ -1,16 +1,14 @@
 //! How windows are read: the next one and its sum come from the one before, at a constant cost.
-ghost use Rattle.std.specs.Prelude.{◌≡◌, ◌+◌, ◌-◌, ◌^◌, ◌<◌, ◌≤◌, true, [], length, take, drop, IfOk, if◌then◌else◌, Ok, Err, sum_by, nat_le};
-ghost use Rattle.refusals.specs.declared.refusal.Refusal.TheVariants.{NotSound};
+ghost use Rattle.std.specs.Prelude.{◌≡◌, ◌+◌, ◌-◌, ◌^◌, ◌<◌, ◌≤◌, true, length, take, IfOk, IfSome, sum_by};
+ghost use Rattle.std.specs.Iterator.{item_count};
 ghost use Rattle.windows.specs.declared.slice_windows.Order.TheVariants.{Growing, Shrinking};
-ghost use Rattle.windows.specs.SliceWindows.{win, growing, growing_from, shrinking, shrinking_from, Within, Shorter, Longer, EachOnce, stands};
-ghost use Rattle.windows.specs.Cursor.{behind, standing, first_window, Right, RightNext, left, opened, readable, seen, first_read, Told, Weighed};
+ghost use Rattle.windows.specs.SliceWindows.{win, growing, growing_from, shrinking, shrinking_from, Within, Shorter, Longer, EachOnce, stands, Right};
+ghost use Rattle.windows.specs.Cursor.{behind, standing, first_window, in_order, left, opened, readable, Weighed, Reads};
 
 use super::{Order, Reading, Summed, Window, Windows};
 use refusals::refusal::Refusal;
 use runs::ranged::TableFile;
-
-// All sizes together may have 2^53 bytes.
-const MAX_BYTES: u64 = 1 << 53;
+use runs::sizes::{MOST_BYTES, total_size};
 
 /// The windows of some tables: length 1 from the left, then length 2 and on.
 pub fn growing_windows<T: TableFile>(tables: &[T]) -> Result<Windows<'_, T>, Refusal>
@@ -18,12 +16,7 @@ pub fn growing_windows<T: TableFile>(tables: &[T]) -> Result<Windows<'_, T>, Ref
     ensures all { IfOk result (λ c. EachOnce (Within (length tables.now)) Shorter (left c)) }
     ensures sums { IfOk result (λ c. Weighed T.bytes c) }
 {
-    total(tables)?;
-    Ok(Windows {
-        tables,
-        order: Order::Growing,
-        next: longer(tables, 0, 0),
-    })
+    windows(tables, Order::Growing)
 }
 
 /// The windows of some tables: the longest first, each length from the left.
@@ -32,24 +25,36 @@ pub fn shrinking_windows<T: TableFile>(tables: &[T]) -> Result<Windows<'_, T>, R
     ensures all { IfOk result (λ c. EachOnce (Within (length tables.now)) Longer (left c)) }
     ensures sums { IfOk result (λ c. Weighed T.bytes c) }
 {
-    let bytes = total(tables)?;
+    windows(tables, Order::Shrinking)
+}
+
+// The windows of some tables in an order.
+fn windows<T: TableFile>(tables: &[T], order: Order) -> Result<Windows<'_, T>, Refusal>
+    ensures answer { opened result ≡ readable T.bytes (in_order order (length tables.now)) tables.now }
+    ensures all { IfOk result (λ c. left c ≡ in_order order (length tables.now)) }
+    ensures sums { IfOk result (λ c. Weighed T.bytes c) }
+{
+    let bytes = total_size(tables, MOST_BYTES).ok_or(Refusal::NotSound)?;
+    let next = match order {
+        Order::Growing => longer(tables, 0, 0),
+        Order::Shrinking => leftmost(tables.len(), bytes),
+    };
     Ok(Windows {
         tables,
-        order: Order::Shrinking,
-        next: leftmost(tables.len(), bytes),
+        order,
+        next,
     })
 }
 
-impl<'a, T: TableFile> Windows<'a, T> {
+impl<'a, T: TableFile> Iterator for Windows<'a, T> {
+    type Item = Reading<'a, T>;
+
+    ghost next_gives = { Reads T.bytes };
+
+    ghost remaining = { item_count left };
+
     /// Reads the next window, if any is left.
-    pub fn next(&mut self) -> Option<Reading<'a, T>>
-        ensures answer { seen result ≡ first_read self.old.tables.now (left self.old) }
-        ensures rest { left self.new ≡ drop 1 (left self.old) }
-        ensures ended { left self.old ≡ [] → self.new ≡ self.old }
-        ensures tables { self.new.tables ≡ self.old.tables }
-        ensures order { self.new.order ≡ self.old.order }
-        ensures sums { Weighed T.bytes self.old → Told T.bytes result × Weighed T.bytes self.new }
-    {
+    fn next(&mut self) -> Option<Reading<'a, T>> {
         let at = self.next?;
         let Window { start, len } = at.window;
         let tables = self.tables;
@@ -62,27 +67,14 @@ impl<'a, T: TableFile> Windows<'a, T> {
     }
 }
 
-// The sum of all sizes, if it is at most 2^53.
-fn total<T: TableFile>(tables: &[T]) -> Result<u64, Refusal>
-    ensures { result ≡ (if nat_le (sum_by T.bytes tables.now) (2 ^ 53) then Ok (sum_by T.bytes tables.now) else Err NotSound) }
-{
-    let mut sum = 0;
-    for table in tables {
-        let size = table.file_size();
-        if size > MAX_BYTES - sum {
-            return Err(Refusal::NotSound);
-        }
-        sum += size;
-    }
-    Ok(sum)
-}
-
 // What is read behind a window.
 fn after<T: TableFile>(tables: &[T], order: Order, at: Summed) -> Option<Summed>
-    requires { Within (length tables.now) at.window }
+    requires within { Within (length tables.now) at.window }
+    requires small { sum_by T.bytes tables.now ≤ 2 ^ 53 }
+    requires right { Right T.bytes tables.now at }
     ensures windows { standing order (length tables.now) result ≡ behind order (length tables.now) at.window }
     ensures stands { stands (length tables.now) result ≡ true }
-    ensures sums { sum_by T.bytes tables.now ≤ 2 ^ 53 → Right T.bytes tables.now at → RightNext T.bytes tables.now result }
+    ensures sums { IfSome result (Right T.bytes tables.now) }
 {
     let Window { start, len } = at.window;
     if start + len < tables.len() {
@@ -94,44 +86,47 @@ fn after<T: TableFile>(tables: &[T], order: Order, at: Summed) -> Option<Summed>
     }
 }
 
-// The window of the same length that starts one table further. No sum here saturates: all sizes together are at most 2^53.
+// The window of the same length that starts one table further.
 fn further<T: TableFile>(tables: &[T], at: Summed) -> Summed
-    requires { at.window.start + at.window.len < length tables.now }
+    requires within { at.window.start + at.window.len < length tables.now }
+    requires small { sum_by T.bytes tables.now ≤ 2 ^ 53 }
+    requires right { Right T.bytes tables.now at }
     ensures window { result.window ≡ win (at.window.start + 1) at.window.len }
-    ensures sums { sum_by T.bytes tables.now ≤ 2 ^ 53 → Right T.bytes tables.now at → Right T.bytes tables.now result }
+    ensures sums { Right T.bytes tables.now result }
 {
     let Window { start, len } = at.window;
-    let grown = at.bytes.saturating_add(tables[start + len].file_size());
+    let grown = at.bytes + tables[start + len].file_size();
     Summed {
         window: Window {
             start: start + 1,
             len,
         },
-        bytes: grown.saturating_sub(tables[start].file_size()),
+        bytes: grown - tables[start].file_size(),
         front: at.front,
     }
 }
 
 // The leftmost window that has one table more, given the sum of the first tables.
 fn longer<T: TableFile>(tables: &[T], len: usize, front: u64) -> Option<Summed>
+    requires small { sum_by T.bytes tables.now ≤ 2 ^ 53 }
+    requires front { front ≡ sum_by T.bytes (take len tables.now) }
     ensures windows { standing Growing (length tables.now) result ≡ growing_from (length tables.now) (len + 1) (length tables.now - len) }
     ensures stands { stands (length tables.now) result ≡ true }
-    ensures sums { sum_by T.bytes tables.now ≤ 2 ^ 53 → front ≡ sum_by T.bytes (take len tables.now) → RightNext T.bytes tables.now result }
+    ensures sums { IfSome result (Right T.bytes tables.now) }
 {
-    if len >= tables.len() {
-        return None;
-    }
-    leftmost(len + 1, front.saturating_add(tables[len].file_size()))
+    let next = tables.get(len)?;
+    leftmost(len + 1, front + next.file_size())
 }
 
 // The leftmost window that has one table less, given the sum of the first tables.
 fn shorter<T: TableFile>(tables: &[T], len: usize, front: u64) -> Option<Summed>
-    requires { (0 < len) × (len ≤ length tables.now) }
+    requires within { (0 < len) × (len ≤ length tables.now) }
+    requires front { front ≡ sum_by T.bytes (take len tables.now) }
     ensures windows { standing Shrinking (length tables.now) result ≡ shrinking_from (length tables.now) (len - 1) }
     ensures stands { stands (length tables.now) result ≡ true }
-    ensures sums { front ≡ sum_by T.bytes (take len tables.now) → RightNext T.bytes tables.now result }
+    ensures sums { IfSome result (Right T.bytes tables.now) }
 {
-    leftmost(len - 1, front.saturating_sub(tables[len - 1].file_size()))
+    leftmost(len - 1, front - tables[len - 1].file_size())
 }
 
 // The window of the first tables, with their sum; of no tables there is none.

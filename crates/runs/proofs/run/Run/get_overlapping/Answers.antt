@@ -1,8 +1,0 @@
-use Rattle.std.proofs.Common.{sym, ◌∙◌}
-use Rattle.runs.proofs.Sorteds.{is_overlapping}
-use Rattle.runs.proofs.run.Run.get_overlapping.Goals as goal
-
-pub returns : goal.returns
-returns g c =
-    is_overlapping g.met.T.Key.KeyKind.total g.T.Ranged.spans c.args.range.now c.args.self.tables.now (sym c.is_sorted.ensures ∙ c.if-not-is_sorted.false)
-    _ _ _ _ c.cut.ensures.place c.cut.ensures.tables c.partition_point-place.ensures.count c.partition_point-end.ensures.count
