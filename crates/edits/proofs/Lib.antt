@@ -1,5 +1,5 @@
-pub mod Among
 pub mod Arrivals
 pub mod Filtering
 pub mod Parting
 pub mod Recounting
+pub mod Reducing

@@ -1,9 +1,8 @@
 -- The recount in one pass.
 use Rattle.std.proofs.Common.{◌≡◌, ℕ, suc, ◌+◌, ◌-◌, ◌<◌, ◌≤◌, Bool, true, false, cond, ◌&&◌, eqb, ltb, List, [], ◌∷◌, ◌++◌, length, get_or, take, drop, set, sym, refl, ap, ◌∙◌, arith}
-use Rattle.std.proofs.lemmas.List.{append_assoc, append-nil, drop_all, drop-drop, drop-set-lt, get_or-drop, get_or-take, length-take-le, take-append-drop, take_more, take_more_set}
+use Rattle.std.proofs.lemmas.List.{append_assoc, append-nil, drop_all, drop-drop, drop-set-lt, get_or-drop, take_all, take_more, take_more_set}
 use Rattle.runs.specs.declared.table.Table.{Table}
 use Rattle.runs.proofs.Sorteds.{drop_read}
-use Rattle.sheets.specs.Edits.{laid}
 use Rattle.sheets.specs.Recount.{counted_run, counting}
 use Rattle.sheets.specs.Tables.{placed}
 use Rattle.sheets.proofs.Laid.{length_cond}
@@ -33,21 +32,19 @@ pub length_counting : {K : Type 0} (ts : List (Table K)) (last next : ℕ) → l
 length_counting [] last next = refl
 length_counting (t ∷ ts) last next = length_cond (eqb t.level 0) _ _ _ (ap suc (length_counting ts t.run (suc (counted_run last next t.run)))) (ap suc (length_counting ts last next))
 
--- ys began as xs, of which `count` stand: the first i are counted
-pub record Recounting {K : Type 0} (xs ys : List (Table K)) (count last next i : ℕ) : Type 0 where
-  pub front : take i ys ++ counting last next (drop i (take count xs)) ≡ counting 0 0 (take count xs)
+-- ys began as xs: the first i are counted
+pub record Recounting {K : Type 0} (xs ys : List (Table K)) (last next i : ℕ) : Type 0 where
+  pub front : take i ys ++ counting last next (drop i xs) ≡ counting 0 0 xs
   pub rest : drop i ys ≡ drop i xs
   pub few : next ≤ i
 
-module _ {K : Type 0} (xs ys : List (Table K)) (count last next i : ℕ) (h : Recounting xs ys count last next i) (le : count ≤ length xs) (same : length ys ≡ length xs) where
-  module _ (x : Table K) (lt : i < count) (e : x ≡ get_or ys i x) where
-    standing : drop i (take count xs) ≡ x ∷ drop (i + 1) (take count xs)
-    standing =
-        let n = length-take-le count xs le in
-        drop_read (take count xs) i x (omega arith) (e ∙ same_rest xs ys i x h.rest ∙ sym (get_or-take count xs i x lt))
+module _ {K : Type 0} (xs ys : List (Table K)) (last next i : ℕ) (h : Recounting xs ys last next i) (same : length ys ≡ length xs) where
+  module _ (x : Table K) (lt : i < length xs) (e : x ≡ get_or ys i x) where
+    standing : drop i xs ≡ x ∷ drop (i + 1) xs
+    standing = drop_read xs i x lt (e ∙ same_rest xs ys i x h.rest)
 
     abbrev behind : ℕ → ℕ → List (Table K)
-    behind l n = counting l n (drop (i + 1) (take count xs))
+    behind l n = counting l n (drop (i + 1) xs)
 
     abbrev again : ℕ
     again = counted_run last next x.run
@@ -55,9 +52,9 @@ module _ {K : Type 0} (xs ys : List (Table K)) (count last next i : ℕ) (h : Re
     abbrev either : Bool → List (Table K)
     either b = cond b (placed x.level again x ∷ behind x.run (suc again)) (x ∷ behind last next)
 
-    pub recount_keep : eqb x.level 0 ≡ false → Recounting xs ys count last next (i + 1)
+    pub recount_keep : eqb x.level 0 ≡ false → Recounting xs ys last next (i + 1)
     recount_keep isnt =
-        let left : counting last next (drop i (take count xs)) ≡ x ∷ behind last next = ap (counting last next) standing ∙ ap either isnt in
+        let left : counting last next (drop i xs) ≡ x ∷ behind last next = ap (counting last next) standing ∙ ap either isnt in
         let done : take (i + 1) ys ≡ take i ys ++ x ∷ [] = take_more ys i x (omega arith) ∙ ap (λ y. take i ys ++ y ∷ []) (sym e) in
         record {
           front = ap (λ l. l ++ behind last next) done ∙ over (take i ys) _ _ x left ∙ h.front;
@@ -65,21 +62,17 @@ module _ {K : Type 0} (xs ys : List (Table K)) (count last next i : ℕ) (h : Re
           few = omega (arith, h.few);
         }
 
-    pub recount_new : eqb x.level 0 ≡ true → Recounting xs (set ys i (placed x.level again x)) count x.run (again + 1) (i + 1)
+    pub recount_new : eqb x.level 0 ≡ true → Recounting xs (set ys i (placed x.level again x)) x.run (again + 1) (i + 1)
     recount_new is =
         let y : Table K = placed x.level again x in
         let up : suc again ≡ again + 1 = omega arith in
-        let left : counting last next (drop i (take count xs)) ≡ y ∷ behind x.run (again + 1) = ap (counting last next) standing ∙ ap either is ∙ ap (λ n. y ∷ behind x.run n) up in
+        let left : counting last next (drop i xs) ≡ y ∷ behind x.run (again + 1) = ap (counting last next) standing ∙ ap either is ∙ ap (λ n. y ∷ behind x.run n) up in
         record {
           front = ap (λ l. l ++ behind x.run (again + 1)) (take_more_set ys i y (omega arith)) ∙ over (take i ys) _ _ y left ∙ h.front;
           rest = drop-set-lt (i + 1) ys i y (omega arith) ∙ next_rest xs ys i h.rest;
           few = omega (arith, h.few, counted_le last next x.run);
         }
 
-  pub recount_all : i ≡ count → ys ≡ laid (counting 0 0 (take count xs)) xs
+  pub recount_all : length xs ≤ i → ys ≡ counting 0 0 xs
   recount_all end =
-      let n = length-take-le count xs le in
-      let none = drop_all i (take count xs) (omega arith) in
-      let all : take i ys ≡ counting 0 0 (take count xs) = sym (append-nil (take i ys)) ∙ ap (λ l. take i ys ++ counting last next l) (sym none) ∙ h.front in
-      let long : i ≡ length (counting 0 0 (take count xs)) = sym (length-take-le i ys (omega arith)) ∙ ap length all in
-      sym (take-append-drop i ys) ∙ ap (λ l. l ++ drop i ys) all ∙ ap (λ l. counting 0 0 (take count xs) ++ l) (h.rest ∙ ap (λ j. drop j xs) long)
+      sym (take_all i ys (omega arith)) ∙ sym (append-nil (take i ys)) ∙ ap (λ l. take i ys ++ counting last next l) (sym (drop_all i xs end)) ∙ h.front

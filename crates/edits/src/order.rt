@@ -6,18 +6,13 @@ ghost use Rattle.sheets.specs.Tables.{sooner, place, insert};
 use crate::records::insert_at;
 use keys::key_kind::KeyKind;
 use runs::table::Table;
+use sheets::order::comes_before;
 
 /// Whether the first table comes before the second in the order of the sheet.
 pub fn is_sooner<K: KeyKind>(t: &Table<K>, u: &Table<K>) -> bool
     ensures { result ≡ sooner K.ranks t.now u.now }
 {
-    if t.level != u.level {
-        return t.level < u.level;
-    }
-    if t.run != u.run {
-        return t.run < u.run;
-    }
-    t.range.min.compare(&u.range.min).is_lt()
+    comes_before(t, &t.range.min, u)
 }
 
 /// How many stand before the table's place: before the first that the table is to come before.
@@ -25,12 +20,10 @@ pub fn place_of<K: KeyKind>(sheet: &[Table<K>], count: usize, table: &Table<K>) 
     requires { count ≤ length sheet.now }
     ensures { result ≡ place K.ranks table.now (take count sheet.now) }
 {
-    for i in 0..count {
-        if is_sooner(table, &sheet[i]) {
-            return i;
-        }
-    }
-    count
+    sheet[..count]
+        .iter()
+        .position(|u| is_sooner(table, u))
+        .unwrap_or(count)
 }
 
 /// Puts the table in its place.

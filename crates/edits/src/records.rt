@@ -1,9 +1,13 @@
 //! Table records changed, put in and taken out in the lent slice. What is public here serves the crates above, which have tested the sheet: hence the `requires`.
-ghost use Rattle.std.specs.Prelude.{◌≡◌, ◌<◌, ◌≤◌, length, take};
+ghost use Rattle.std.specs.Prelude.{◌≡◌, ◌<◌, ◌≤◌, map, length, take, filter};
 ghost use Rattle.std.specs.List.{insert, remove};
+ghost use Rattle.runs.specs.Run.{span_of};
 ghost use Rattle.sheets.specs.Edits.{laid, changed};
-ghost use Rattle.sheets.specs.Tables.{memb, placed, without};
+ghost use Rattle.sheets.specs.Tables.{memb, named, placed, without};
 
+use keys::key_kind::KeyKind;
+use keys::key_range::KeyRange;
+use runs::ranged::TableFile;
 use runs::table::Table;
 
 /// Puts the table at the place; what stood from there on moves one to the right.
@@ -25,11 +29,22 @@ pub fn remove_at<K: Copy>(sheet: &mut [Table<K>], count: usize, at: usize)
     sheet.copy_within(at + 1..count, at);
 }
 
-/// Whether the number is among the numbers.
-pub fn is_among(number: u64, numbers: &[u64]) -> bool
-    ensures { result ≡ memb number numbers.now }
+/// Whether one of the tables has the number.
+pub fn has_number<T: TableFile>(tables: &[T], number: u64) -> bool
+    ensures { result ≡ memb number (map T.named tables.now) }
 {
-    numbers.contains(&number)
+    tables.iter().map(|t| t.id()).any(|id| id == number)
+}
+
+/// The span of those of the tables whose numbers are listed.
+pub fn span_held<K: KeyKind>(tables: &[Table<K>], numbers: &[u64]) -> Option<KeyRange<K>>
+    ensures { result ≡ span_of K.ranks (λ t. t.range) (filter (named numbers.now) tables.now) }
+{
+    tables
+        .iter()
+        .filter(|t| numbers.contains(&t.number))
+        .map(|t| t.range)
+        .reduce(|span, range| span.widen(&range))
 }
 
 /// Takes out all tables whose numbers are listed; the others keep their order. How many stand then.
@@ -38,10 +53,11 @@ pub fn remove_all<K: Copy>(sheet: &mut [Table<K>], count: usize, numbers: &[u64]
     ensures count { result ≡ length (without numbers.now (take count sheet.old)) }
     ensures sheet { sheet.new ≡ laid (without numbers.now (take count sheet.old)) sheet.old }
 {
+    // The slice is read ahead of where it is written, so the loop goes by index.
     let mut left = 0;
     for i in 0..count {
         let t = sheet[i];
-        if !is_among(t.number, numbers) {
+        if !numbers.contains(&t.number) {
             sheet[left] = t;
             left += 1;
         }

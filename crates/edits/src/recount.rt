@@ -13,13 +13,12 @@ pub fn recount<K: Copy>(sheet: &mut [Table<K>], count: usize)
 {
     let mut last: u16 = 0;
     let mut next: u16 = 0;
-    for i in 0..count {
-        let t = sheet[i];
+    for t in sheet[..count].iter_mut() {
         if t.level == 0 {
             let run = counted_run(last, next, t.run);
-            sheet[i] = Table { run, ..t };
             last = t.run;
             next = run + 1;
+            t.run = run;
         }
     }
 }

@@ -1,10 +1,11 @@
 //! Tables that leave their places in the sheet, and tables that get theirs. What is public here serves the crates above, which have tested the sheet: hence the `requires`.
 ghost use Rattle.std.specs.Prelude.{◌≡◌, ◌+◌, ◌≤◌, map, length, take, drop};
 ghost use Rattle.sheets.specs.Edits.{laid};
-ghost use Rattle.sheets.specs.Tables.{without, parted, placed, settled, inserts};
+ghost use Rattle.runs.specs.Fresh.{settled};
+ghost use Rattle.sheets.specs.Tables.{without, parted, placed, inserts};
 
 use crate::order::insert;
-use crate::records::{insert_at, is_among};
+use crate::records::insert_at;
 use keys::key_kind::KeyKind;
 use runs::fresh::Fresh;
 use runs::table::Table;
@@ -15,10 +16,11 @@ pub fn part<K: Copy>(sheet: &mut [Table<K>], count: usize, numbers: &[u64]) -> u
     ensures count { result ≡ length (without numbers.now (take count sheet.old)) }
     ensures sheet { sheet.new ≡ laid (parted numbers.now (take count sheet.old)) sheet.old }
 {
+    // Each insertion shifts the slice, so the loop goes by index.
     let mut left = 0;
     for i in 0..count {
         let t = sheet[i];
-        if !is_among(t.number, numbers) {
+        if !numbers.contains(&t.number) {
             insert_at(sheet, i, left, t);
             left += 1;
         }
@@ -32,6 +34,7 @@ pub fn take_in<K: KeyKind>(sheet: &mut [Table<K>], left: usize, count: usize, le
     requires fits { count ≤ length sheet.old }
     ensures { sheet.new ≡ laid (inserts K.ranks (take left sheet.old) (map (placed level 0) (drop left (take count sheet.old)))) sheet.old }
 {
+    // Each insertion shifts the slice, so the loop goes by index.
     for i in left..count {
         let t = sheet[i];
         insert(sheet, i, Table { level, run: 0, ..t });
@@ -49,23 +52,8 @@ pub fn settle<K: KeyKind>(
     ensures count { result ≡ count + length outputs.now }
     ensures sheet { sheet.new ≡ laid (inserts K.ranks (take count sheet.old) (map (settled level 0) outputs.now)) sheet.old }
 {
-    for i in 0..outputs.len() {
-        insert(sheet, count + i, table_of(&outputs[i], level, 0));
+    for (i, output) in outputs.iter().enumerate() {
+        insert(sheet, count + i, output.at(level, 0));
     }
     count + outputs.len()
-}
-
-/// The fresh table at a level and run.
-pub fn table_of<K: Copy>(fresh: &Fresh<K>, level: u8, run: u16) -> Table<K>
-    ensures { result ≡ settled level run fresh.now }
-{
-    Table {
-        number: fresh.number,
-        level,
-        run,
-        range: fresh.range,
-        size: fresh.size,
-        created: fresh.created,
-        linked: fresh.linked,
-    }
 }

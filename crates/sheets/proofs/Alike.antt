@@ -8,7 +8,8 @@ use Rattle.runs.specs.declared.fresh.Fresh.{Fresh}
 use Rattle.runs.specs.Pairing.{Twin, Fellow}
 use Rattle.sheets.specs.Edits.{laid, changed}
 use Rattle.sheets.specs.Recount.{counted_run, counting}
-use Rattle.sheets.specs.Tables.{memb, named, unnamed, without, parted, placed, settled, sooner, place, insert, inserts}
+use Rattle.runs.specs.Fresh.{settled}
+use Rattle.sheets.specs.Tables.{memb, named, unnamed, without, parted, placed, sooner, place, insert, inserts}
 
 -- ---- lists that pair
 module _ {X Y : Type 0} (S : X → Y → Type 0) where

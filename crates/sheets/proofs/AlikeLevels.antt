@@ -1,20 +1,20 @@
 -- On tables that are equal but for keys, levels and what is asked of them are alike.
 use Rattle.std.proofs.Common.{◌≡◌, ℕ, Bool, List, refl, ap}
+use Rattle.std.specs.List.{list_any, list_all}
 use Rattle.keys.specs.Pairing.{Both, nil, cons}
 use Rattle.keys.proofs.Alike.{length_alike, sum_alike, kept_alike, map_same}
 use Rattle.runs.specs.declared.table.Table.{Table}
 use Rattle.runs.specs.Pairing.{Twin}
 use Rattle.sheets.specs.Level.{numbers_of, size_of, in_level, level_of, count_of, filled, touched, free_of, runs}
-use Rattle.sheets.specs.Members.{some, all_by}
 use Rattle.sheets.specs.Tables.{memb, named, unnamed}
 
 -- ---- tests of lists that pair
 module _ {X Y : Type 0} (S : X → Y → Type 0) where
-  pub some_alike : (p : X → Bool) (q : Y → Bool) → ((x : X) (y : Y) → S x y → p x ≡ q y) → {xs : List X} {ys : List Y} → Both S xs ys → some p xs ≡ some q ys
+  pub some_alike : (p : X → Bool) (q : Y → Bool) → ((x : X) (y : Y) → S x y → p x ≡ q y) → {xs : List X} {ys : List Y} → Both S xs ys → list_any p xs ≡ list_any q ys
   some_alike p q f nil = refl
   some_alike p q f (cons {x} {y} s r) = rw (f x y s, some_alike p q f r)
 
-  pub all_alike : (p : X → Bool) (q : Y → Bool) → ((x : X) (y : Y) → S x y → p x ≡ q y) → {xs : List X} {ys : List Y} → Both S xs ys → all_by p xs ≡ all_by q ys
+  pub all_alike : (p : X → Bool) (q : Y → Bool) → ((x : X) (y : Y) → S x y → p x ≡ q y) → {xs : List X} {ys : List Y} → Both S xs ys → list_all p xs ≡ list_all q ys
   all_alike p q f nil = refl
   all_alike p q f (cons {x} {y} s r) = rw (f x y s, all_alike p q f r)
 

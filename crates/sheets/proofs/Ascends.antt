@@ -1,10 +1,10 @@
 -- The order of the sheet: what it says of two tables, pair by pair, and how it passes along.
 use Rattle.std.proofs.Common.{◌≡◌, ℕ, ◌<◌, ◌≤◌, Bool, true, false, not, ◌⊎◌, List, Ordering, Greater, sym, ap, ◌∙◌, inl, inr, arith}
-use Rattle.std.specs.Ordering.{is_lt, ordering_reverse, ordering_then}
+use Rattle.std.specs.Ordering.{is_lt, ordering_reverse, ordering_then, nat_cmp}
 use Rattle.std.proofs.lemmas.Bool.{both_ways, cases_order, and_cases, and_left, not-false, not_from_true}
-use Rattle.keys.specs.KeyKind.{Laws, by_number}
+use Rattle.keys.specs.KeyKind.{Laws}
 use Rattle.keys.specs.KeyRange.{meets}
-use Rattle.keys.specs.Lexes.{number_flip, less_number, same_number}
+use Rattle.keys.proofs.Numbers.{number_flip, less_number, same_number}
 use Rattle.keys.proofs.Orders.{less_from, lt_chain, lt_le, le_lt}
 use Rattle.runs.specs.declared.table.Table.{Table}
 use Rattle.sheets.specs.Level.{Stacked}
@@ -20,21 +20,21 @@ pub data Ahead {K : Type 0} (cmp : K → K → Ordering) (t u : Table K) : Type 
   by_key : t.level ≡ u.level → t.run ≡ u.run → is_lt (cmp t.range.max u.range.min) ≡ true → Ahead cmp t u
 
 -- ---- numbers decide first, then an answer on keys
-greater_number : (m n : ℕ) → n < m → by_number m n ≡ Greater
+greater_number : (m n : ℕ) → n < m → nat_cmp m n ≡ Greater
 greater_number m n h = number_flip n m ∙ ap ordering_reverse (less_number n m h)
 
 module _ (a b c d : ℕ) (o : Ordering) where
   abbrev decided : Bool
-  decided = is_lt (ordering_then (by_number a b) (ordering_then (by_number c d) o))
+  decided = is_lt (ordering_then (nat_cmp a b) (ordering_then (nat_cmp c d) o))
 
   lower : a < b → decided ≡ true
-  lower h = ap (λ p. is_lt (ordering_then p (ordering_then (by_number c d) o))) (less_number a b h)
+  lower h = ap (λ p. is_lt (ordering_then p (ordering_then (nat_cmp c d) o))) (less_number a b h)
 
   higher : b < a → decided ≡ false
-  higher h = ap (λ p. is_lt (ordering_then p (ordering_then (by_number c d) o))) (greater_number a b h)
+  higher h = ap (λ p. is_lt (ordering_then p (ordering_then (nat_cmp c d) o))) (greater_number a b h)
 
-  one_level : a ≡ b → decided ≡ is_lt (ordering_then (by_number c d) o)
-  one_level e = ap (λ p. is_lt (ordering_then p (ordering_then (by_number c d) o))) (same_number a b e)
+  one_level : a ≡ b → decided ≡ is_lt (ordering_then (nat_cmp c d) o)
+  one_level e = ap (λ p. is_lt (ordering_then p (ordering_then (nat_cmp c d) o))) (same_number a b e)
 
   earlier : a ≡ b → c < d → decided ≡ true
   earlier e h = one_level e ∙ ap (λ p. is_lt (ordering_then p o)) (less_number c d h)

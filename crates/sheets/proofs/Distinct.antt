@@ -1,9 +1,8 @@
 -- Numbers of which none stands twice: by pairs, by counting, and, where they are sorted, by neighbours.
-use Rattle.std.proofs.Common.{◌≡◌, ℕ, suc, ◌+◌, ◌<◌, ◌≤◌, true, false, cond, not, ◌&&◌, eqb, List, [], ◌∷◌, length, get_or, drop, Decides, count_by, sym, refl, ap, ◌∙◌, subst, inl, inr, arith}
+use Rattle.std.proofs.Common.{◌||◌, ◌≡◌, ℕ, suc, ◌<◌, ◌≤◌, Bool, true, false, cond, not, ◌&&◌, eqb, List, [], ◌∷◌, length, get_or, Decides, count_by, sym, refl, ap, ◌∙◌, inl, inr, arith}
 use Rattle.std.specs.List.Sorted.{IsPermutation, IsNonDecreasing}
-use Rattle.std.proofs.lemmas.List.{drop_more, get_or-drop, length-drop}
 use Rattle.std.proofs.lemmas.List.Sorted.{sum_by-IsPermutation}
-use Rattle.std.proofs.lemmas.Bool.{true≢false, cases_Bool, both_ways, eq-eqb, ne_eqb, eqb-true, and_parts, and_from, not-true, not_from_false}
+use Rattle.std.proofs.lemmas.Bool.{true≢false, cases_Bool, both_ways, eq-eqb, ne_eqb, eqb-true, eqb-false, and_parts, and_from, not-true, not_from_false}
 use Rattle.std.proofs.lemmas.Bool.Decides.{same_from_decides, Decides-like}
 use Rattle.runs.specs.declared.table.Table.{Table}
 use Rattle.runs.proofs.Falls.{count_yes, count_no}
@@ -46,7 +45,7 @@ Once xs = (n : ℕ) → occurs n xs ≤ 1
 occurs_yes : (n : ℕ) (xs : List ℕ) → memb n xs ≡ true → 0 < occurs n xs
 occurs_yes n [] h = absurd (true≢false (sym h))
 occurs_yes n (x ∷ xs) h =
-    elim (eqb x n) as (λ b. eqb x n ≡ b → cond b true (memb n xs) ≡ true → 0 < occurs n (x ∷ xs)) [
+    elim (eqb x n) as (λ b. eqb x n ≡ b → (b || memb n xs) ≡ true → 0 < occurs n (x ∷ xs)) [
       | true ↦ λ e k. omega (arith, count_yes (λ y. eqb y n) x xs e)
       | false ↦ λ e k. omega (arith, count_no (λ y. eqb y n) x xs e, occurs_yes n xs k)
     ] refl h
@@ -54,7 +53,7 @@ occurs_yes n (x ∷ xs) h =
 occurs_no : (n : ℕ) (xs : List ℕ) → memb n xs ≡ false → occurs n xs ≡ 0
 occurs_no n [] h = refl
 occurs_no n (x ∷ xs) h =
-    elim (eqb x n) as (λ b. eqb x n ≡ b → cond b true (memb n xs) ≡ false → occurs n (x ∷ xs) ≡ 0) [
+    elim (eqb x n) as (λ b. eqb x n ≡ b → (b || memb n xs) ≡ false → occurs n (x ∷ xs) ≡ 0) [
       | true ↦ λ e k. absurd (true≢false k)
       | false ↦ λ e k. count_no (λ y. eqb y n) x xs e ∙ occurs_no n xs k
     ] refl h
@@ -96,28 +95,21 @@ above n (x ∷ xs) f =
     let e : eqb x n ≡ false = ne_eqb x n (λ q. omega (arith, f 0 (omega arith))) in
     rw e (above n xs (λ k h. f (suc k) (omega arith)))
 
-module _ (xs : List ℕ) (up : IsNonDecreasing xs) (j i : ℕ) (next : j + 1 ≡ i) (within : i < length xs) where
-  left : drop j xs ≡ get_or xs j 0 ∷ drop i xs
-  left = drop_more xs j 0 (omega arith) ∙ ap (λ k. get_or xs j 0 ∷ drop k xs) next
+-- each differs from the next
+abbrev pub differ_next : List ℕ → Bool
+differ_next [] = true
+differ_next (x ∷ []) = true
+differ_next (x ∷ y ∷ ys) = not (eqb x y) && differ_next (y ∷ ys)
 
-  -- two neighbours that are equal
-  pub twice : get_or xs j 0 ≡ get_or xs i 0 → distinct (drop j xs) ≡ false
-  twice e =
-      let there : memb (get_or xs j 0) (drop i xs) ≡ true = in_memb _ (drop i xs) (subst (In (get_or xs j 0)) (sym (drop_more xs i 0 within)) (here e)) in
-      ap distinct left ∙ ap (λ b. not b && distinct (drop i xs)) there
-
-  -- two neighbours that differ
-  pub once_more : (get_or xs j 0 ≡ get_or xs i 0 → ⊥) → distinct (drop j xs) ≡ distinct (drop i xs)
-  once_more ne =
-      let behind : (k : ℕ) → k < length (drop i xs) → get_or xs j 0 < get_or (drop i xs) k 0 =
-      λ k h. omega (arith, ne, up j i 0 (omega arith) within, up i (i + k) 0 (omega arith) (omega (arith, length-drop i xs)), get_or-drop i xs k 0) in
-      ap distinct left ∙ ap (λ b. not b && distinct (drop i xs)) (above (get_or xs j 0) (drop i xs) behind)
-
--- at most one is left
-pub distinct_last : (xs : List ℕ) (j : ℕ) → length xs ≤ j + 1 → distinct (drop j xs) ≡ true
-distinct_last xs j h = short (drop j xs) (omega (arith, length-drop j xs))
-  where
-    short : (ys : List ℕ) → length ys ≤ 1 → distinct ys ≡ true
-    short [] l = refl
-    short (y ∷ []) l = refl
-    short (y ∷ z ∷ zs) l = absurd (omega arith)
+pub risen : (xs : List ℕ) → IsNonDecreasing xs → distinct xs ≡ differ_next xs
+risen [] up = refl
+risen (x ∷ []) up = refl
+risen (x ∷ y ∷ ys) up =
+    let rest = risen (y ∷ ys) (λ i j d h k. up (suc i) (suc j) d (omega arith) (omega arith)) in
+    elim (cases_Bool (eqb x y)) [
+      | inl e ↦ let f : eqb y x ≡ true = eq-eqb y x (sym (eqb-true x y e)) in rw (e, f) refl
+      | inr e ↦
+          let ne = eqb-false x y e in
+          let lacks = above x (y ∷ ys) (λ k h. omega (arith, ne, up 0 1 0 (omega arith) (omega arith), up 1 (suc k) 0 (omega arith) (omega arith))) in
+          rw (e, lacks) rest
+    ]

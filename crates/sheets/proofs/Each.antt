@@ -1,7 +1,8 @@
 -- Who stands in a list, and what holds of each, of some and of each two.
-use Rattle.std.proofs.Common.{◌≡◌, ℕ, Bool, true, false, cond, eqb, ◌⊎◌, List, [], ◌∷◌, map, filter, sym, refl, ap, ◌∙◌, subst, inl, inr}
+use Rattle.std.proofs.Common.{◌||◌, ◌≡◌, ℕ, Bool, true, false, cond, eqb, ◌⊎◌, List, [], ◌∷◌, map, filter, sym, refl, ap, ◌∙◌, subst, inl, inr}
+use Rattle.std.specs.List.{list_any, list_all}
 use Rattle.std.proofs.lemmas.Bool.{true≢false, cases_Bool, eq-eqb, eqb-true, and_parts, and_from}
-use Rattle.sheets.specs.Members.{In, here, later, Every, Pairs, none, more, some, all_by}
+use Rattle.sheets.specs.Members.{In, here, later, Every, Pairs, none, more}
 use Rattle.sheets.specs.Tables.{memb}
 
 module _ {X : Type 0} where
@@ -51,29 +52,29 @@ module _ {X : Type 0} where
   pair_in R turn (more h ps) (later m) (later n) = pair_in R turn ps m n
 
   -- ---- tests
-  pub some_in : (p : X → Bool) (xs : List X) → some p xs ≡ true → (x : X) × In x xs × (p x ≡ true)
+  pub some_in : (p : X → Bool) (xs : List X) → list_any p xs ≡ true → (x : X) × In x xs × (p x ≡ true)
   some_in p [] h = absurd (true≢false (sym h))
   some_in p (y ∷ ys) h =
-      elim (p y) as (λ b. p y ≡ b → cond b true (some p ys) ≡ true → (x : X) × In x (y ∷ ys) × (p x ≡ true))
+      elim (p y) as (λ b. p y ≡ b → (b || list_any p ys) ≡ true → (x : X) × In x (y ∷ ys) × (p x ≡ true))
       [ true ↦ λ e k. (y, here refl, e) | false ↦ λ e k. let r = some_in p ys k in (r.0, later r.1, r.2) ] refl h
 
-  pub in_some : (p : X → Bool) (xs : List X) (x : X) → In x xs → p x ≡ true → some p xs ≡ true
+  pub in_some : (p : X → Bool) (xs : List X) (x : X) → In x xs → p x ≡ true → list_any p xs ≡ true
   in_some p [] x m h = elim m [ ]
   in_some p (y ∷ ys) x (here e) h = let q : p y ≡ true = ap p (sym e) ∙ h in rw q
   in_some p (y ∷ ys) x (later m) h =
       let k = in_some p ys x m h in
-      elim (p y) as (λ b. cond b true (some p ys) ≡ true) [ true ↦ refl | false ↦ k ]
+      elim (p y) as (λ b. (b || list_any p ys) ≡ true) [ true ↦ refl | false ↦ k ]
 
-  pub none_some : (p : X → Bool) (xs : List X) → some p xs ≡ false → (x : X) → In x xs → p x ≡ false
+  pub none_some : (p : X → Bool) (xs : List X) → list_any p xs ≡ false → (x : X) → In x xs → p x ≡ false
   none_some p xs h x m = elim (cases_Bool (p x)) [ inl e ↦ absurd (true≢false (sym (in_some p xs x m e) ∙ h)) | inr e ↦ e ]
 
-  pub all_from : (p : X → Bool) (xs : List X) → all_by p xs ≡ true → Every (λ x. p x ≡ true) xs
+  pub all_from : (p : X → Bool) (xs : List X) → list_all p xs ≡ true → Every (λ x. p x ≡ true) xs
   all_from p [] h x m = absurd (none_in m)
-  all_from p (y ∷ ys) h x m = let a = and_parts (p y) (all_by p ys) h in elim (in_cases m) [ inl e ↦ ap p e ∙ a.0 | inr n ↦ all_from p ys a.1 x n ]
+  all_from p (y ∷ ys) h x m = let a = and_parts (p y) (list_all p ys) h in elim (in_cases m) [ inl e ↦ ap p e ∙ a.0 | inr n ↦ all_from p ys a.1 x n ]
 
-  pub all_to : (p : X → Bool) (xs : List X) → Every (λ x. p x ≡ true) xs → all_by p xs ≡ true
+  pub all_to : (p : X → Bool) (xs : List X) → Every (λ x. p x ≡ true) xs → list_all p xs ≡ true
   all_to p [] f = refl
-  all_to p (y ∷ ys) f = and_from (p y) (all_by p ys) (f y (here refl)) (all_to p ys (λ x m. f x (later m)))
+  all_to p (y ∷ ys) f = and_from (p y) (list_all p ys) (f y (here refl)) (all_to p ys (λ x m. f x (later m)))
 
 -- ---- a map
 pub in_map : {X Y : Type 0} (f : X → Y) (xs : List X) (y : Y) → In y (map f xs) → (x : X) × In x xs × (y ≡ f x)
@@ -89,9 +90,9 @@ map_in f (y ∷ ys) x (later m) = later (map_in f ys x m)
 pub memb_in : (n : ℕ) (ns : List ℕ) → memb n ns ≡ true → In n ns
 memb_in n [] h = absurd (true≢false (sym h))
 memb_in n (m ∷ ms) h =
-    elim (eqb m n) as (λ b. eqb m n ≡ b → cond b true (memb n ms) ≡ true → In n (m ∷ ms)) [ true ↦ λ e k. here (sym (eqb-true m n e)) | false ↦ λ e k. later (memb_in n ms k) ] refl h
+    elim (eqb m n) as (λ b. eqb m n ≡ b → (b || memb n ms) ≡ true → In n (m ∷ ms)) [ true ↦ λ e k. here (sym (eqb-true m n e)) | false ↦ λ e k. later (memb_in n ms k) ] refl h
 
 pub in_memb : (n : ℕ) (ns : List ℕ) → In n ns → memb n ns ≡ true
 in_memb n [] k = elim k [ ]
 in_memb n (m ∷ ms) (here e) = let q : eqb m n ≡ true = eq-eqb m n (sym e) in rw q
-in_memb n (m ∷ ms) (later k) = let r = in_memb n ms k in elim (eqb m n) as (λ b. cond b true (memb n ms) ≡ true) [ true ↦ refl | false ↦ r ]
+in_memb n (m ∷ ms) (later k) = let r = in_memb n ms k in elim (eqb m n) as (λ b. (b || memb n ms) ≡ true) [ true ↦ refl | false ↦ r ]

@@ -2,7 +2,7 @@
 use Rattle.std.proofs.Common.{◌≡◌, ℕ, ◌+◌, ◌<◌, ◌≤◌, Bool, true, false, cond, not, ◌&&◌, ◌||◌, eqb, leb, List, [], ◌∷◌, ◌++◌, length, get_or, take, drop, sym, refl, ap, ◌∙◌, arith}
 use Rattle.std.proofs.lemmas.List.{at_drop_more, length_push, length-take, take_at, take_all, take-take}
 use Rattle.std.proofs.lemmas.Bool.{lt-leb, eqb-true, and_right}
-use Rattle.sheets.specs.HiddenSet.{hidden, blocked, hiding, showing}
+use Rattle.sheets.specs.HiddenSet.{hidden, hiding, showing}
 use Rattle.sheets.specs.Tables.{memb}
 use Rattle.sheets.specs.declared.hidden_set.HiddenSet.{HiddenSet}
 
@@ -10,12 +10,6 @@ pub hidden_few : (set : HiddenSet) → length (hidden set) ≤ 1024
 hidden_few set = omega (arith, length-take set.count set.ids, set.few)
 
 module _ (hs xs : List ℕ) (i : ℕ) (within : i < length xs) where
-  pub blocked_here : memb (get_or xs i 0) hs ≡ true → blocked hs (drop i xs) ≡ true
-  blocked_here e = at_drop_more (blocked hs) xs i 0 within ∙ rw e
-
-  pub blocked_next : memb (get_or xs i 0) hs ≡ false → blocked hs (drop i xs) ≡ blocked hs (drop (i + 1) xs)
-  blocked_next e = at_drop_more (blocked hs) xs i 0 within ∙ rw e
-
   pub hiding_old : memb (get_or xs i 0) hs ≡ true → hiding hs (drop i xs) ≡ hiding hs (drop (i + 1) xs)
   hiding_old e = at_drop_more (hiding hs) xs i 0 within ∙ ap (λ b. hiding (cond b hs (hs ++ get_or xs i 0 ∷ [])) (drop (i + 1) xs)) e
 
@@ -60,7 +54,7 @@ hiding_full all hs xs i h e n l =
 -- ---- what is hidden afterwards
 memb_append : (n : ℕ) (xs ys : List ℕ) → memb n (xs ++ ys) ≡ (memb n xs || memb n ys)
 memb_append n [] ys = refl
-memb_append n (x ∷ xs) ys = elim (eqb x n) as (λ b. cond b true (memb n (xs ++ ys)) ≡ (cond b true (memb n xs) || memb n ys)) [ true ↦ refl | false ↦ memb_append n xs ys ]
+memb_append n (x ∷ xs) ys = elim (eqb x n) as (λ b. (b || memb n (xs ++ ys)) ≡ ((b || memb n xs) || memb n ys)) [ true ↦ refl | false ↦ memb_append n xs ys ]
 
 or_false : (b : Bool) → (b || false) ≡ b
 or_false true = refl
@@ -72,7 +66,7 @@ memb_more n m hs true false p q = sym (or_false (memb n hs))
 memb_more n m hs false true p q = memb_append n hs (m ∷ []) ∙ rw q
 memb_more n m hs false false p q = memb_append n hs (m ∷ []) ∙ rw q
 
-or_step : (a e c : Bool) → ((a || e) || c) ≡ (a || cond e true c)
+or_step : (a e c : Bool) → ((a || e) || c) ≡ (a || (e || c))
 or_step true e c = refl
 or_step false true c = refl
 or_step false false c = refl
@@ -91,11 +85,11 @@ memb_showing n ns (h ∷ hs) =
     let rest = memb_showing n ns hs in
     let same : eqb h n ≡ true → memb h ns ≡ memb n ns = λ e. ap (λ k. memb k ns) (eqb-true h n e) in
     elim (memb h ns) as (λ b. memb h ns ≡ b → memb n (cond (not b) (h ∷ showing ns hs) (showing ns hs)) ≡ (memb n (h ∷ hs) && not (memb n ns))) [
-      | true ↦ λ p. elim (eqb h n) as (λ e. eqb h n ≡ e → memb n (showing ns hs) ≡ (cond e true (memb n hs) && not (memb n ns))) [
+      | true ↦ λ p. elim (eqb h n) as (λ e. eqb h n ≡ e → memb n (showing ns hs) ≡ ((e || memb n hs) && not (memb n ns))) [
         | true ↦ λ q. let there = sym (same q) ∙ p in rest ∙ rw there (and_right (memb n hs) false refl)
         | false ↦ λ q. rest
       ] refl
-      | false ↦ λ p. elim (eqb h n) as (λ e. eqb h n ≡ e → cond e true (memb n (showing ns hs)) ≡ (cond e true (memb n hs) && not (memb n ns))) [
+      | false ↦ λ p. elim (eqb h n) as (λ e. eqb h n ≡ e → (e || memb n (showing ns hs)) ≡ ((e || memb n hs) && not (memb n ns))) [
         | true ↦ λ q. let gone = sym (same q) ∙ p in rw gone
         | false ↦ λ q. rest
       ] refl

@@ -1,10 +1,8 @@
 -- Tables put in their places.
-use Rattle.std.proofs.Common.{◌≡◌, ℕ, ◌+◌, ◌<◌, ◌≤◌, Bool, true, false, cond, not, List, [], ◌∷◌, ◌++◌, length, get_or, take, drop, Ordering, sym, refl, ap, ◌∙◌, one-add, arith}
+use Rattle.std.proofs.Common.{◌≡◌, ℕ, ◌+◌, ◌≤◌, Bool, true, false, cond, not, List, [], ◌∷◌, ◌++◌, length, Ordering, refl, ap, one-add, arith}
 use Rattle.std.specs.List.{insert as inserted}
-use Rattle.std.proofs.lemmas.List.{drop_all, get_or-take, length-take-le}
 use Rattle.std.proofs.lemmas.List.Sums.{prefix_len-le-length}
 use Rattle.runs.specs.declared.table.Table.{Table}
-use Rattle.runs.proofs.Sorteds.{drop_read}
 use Rattle.sheets.specs.Tables.{sooner, place, insert, inserts}
 use Rattle.sheets.proofs.Laid.{length_cond}
 
@@ -15,24 +13,6 @@ at_place false t u us l n h = rw one-add (ap (λ k. u ∷ k) h)
 module _ {K : Type 0} (cmp : K → K → Ordering) where
   pub place_within : (t : Table K) (us : List (Table K)) → place cmp t us ≤ length us
   place_within t us = prefix_len-le-length (λ u. not (sooner cmp t u)) us
-
-  -- ---- a search for the place: t is sooner than the table at i of the `count` that stand, or is not, or none is left
-  module _ (t : Table K) (s : List (Table K)) (count : ℕ) (fits : count ≤ length s) (i : ℕ) where
-    module _ (x : Table K) (lt : i < count) (e : x ≡ get_or s i x) where
-      standing : drop i (take count s) ≡ x ∷ drop (i + 1) (take count s)
-      standing = drop_read (take count s) i x (omega (arith, length-take-le count s fits)) (e ∙ sym (get_or-take count s i x lt))
-
-      step : (b : Bool) → sooner cmp t x ≡ b → place cmp t (drop i (take count s)) ≡ cond (not b) (1 + place cmp t (drop (i + 1) (take count s))) 0
-      step b is = ap (place cmp t) standing ∙ ap (λ c. cond (not c) (1 + place cmp t (drop (i + 1) (take count s))) 0) is
-
-      pub place_here : sooner cmp t x ≡ true → place cmp t (drop i (take count s)) ≡ 0
-      place_here is = step true is
-
-      pub place_later : sooner cmp t x ≡ false → place cmp t (drop i (take count s)) ≡ 1 + place cmp t (drop (i + 1) (take count s))
-      place_later isnt = step false isnt
-
-    pub place_last : count ≤ i → place cmp t (drop i (take count s)) ≡ 0
-    place_last le = ap (place cmp t) (drop_all i (take count s) (omega (arith, length-take-le count s fits)))
 
   -- at its place, a table is inserted
   pub inserted_place : (t : Table K) (us : List (Table K)) → inserted us (place cmp t us) t ≡ insert cmp t us

@@ -8,6 +8,5 @@ pub mod Hiding
 pub mod Inserts
 pub mod Laid
 pub mod Levels
-pub mod Members
 pub mod Neighbours
 pub mod Soundness

@@ -1,25 +1,34 @@
--- The tests that go through a sheet, one table further.
-use Rattle.std.proofs.Common.{◌≡◌, ℕ, suc, ◌+◌, ◌<◌, ◌≤◌, true, cond, ◌&&◌, eqb, List, [], ◌∷◌, length, get_or, drop, Ordering, refl, ap, ◌∙◌, arith}
-use Rattle.std.proofs.lemmas.List.{length-drop}
+-- The tests that go through a sheet: each table and the next, and the runs of level 0.
+use Rattle.std.proofs.Common.{◌≡◌, ℕ, zero, suc, ◌+◌, ◌<◌, Bool, true, false, cond, ◌&&◌, eqb, List, [], ◌∷◌, length, get_or, drop, sym, refl, ap, ◌∙◌, arith}
+use Rattle.std.specs.List.{AllAdjacentBelow, IsAllAdjacentAnswer}
+use Rattle.std.proofs.lemmas.Bool.{and_from}
 use Rattle.runs.specs.declared.table.Table.{Table}
 use Rattle.runs.proofs.Sorteds.{drop_read}
-use Rattle.sheets.specs.Sound.{ahead, leads, in_order, counts_on}
+use Rattle.sheets.specs.Sound.{counts_on}
 
-module _ {K : Type 0} (cmp : K → K → Ordering) (ts : List (Table K)) (j i : ℕ) (next : j + 1 ≡ i) where
-  -- t and u are neighbours
-  pub order_at : (t u : Table K) → i < length ts → t ≡ get_or ts j t → u ≡ get_or ts i u → in_order cmp (drop j ts) ≡ (ahead cmp t u && in_order cmp (drop i ts))
-  order_at t u h e f =
-      let left : drop j ts ≡ t ∷ drop i ts = drop_read ts j t (omega arith) e ∙ ap (λ k. t ∷ drop k ts) next in
-      ap (in_order cmp) left ∙ ap (λ us. leads cmp t us && in_order cmp (drop i ts)) (drop_read ts i u h f)
+-- a test F of a list that asks e of each element and the next
+module _ {X : Type 0} (e : X → X → Bool) (F : List X → Bool) (none : F [] ≡ true) (one : (x : X) → F (x ∷ []) ≡ true) (more : (x y : X) (ys : List X) → F (x ∷ y ∷ ys) ≡ (e x y && F (y ∷ ys))) where
+  shifted : (x : X) (ys : List X) (k : ℕ) (d : X) → e (get_or (x ∷ ys) (suc k) d) (get_or (x ∷ ys) (suc k + 1) d) ≡ e (get_or ys k d) (get_or ys (k + 1) d)
+  shifted x ys k d = ap (λ n. e (get_or ys k d) (get_or (x ∷ ys) n d)) (let s : suc k + 1 ≡ suc (k + 1) = omega arith in s)
 
-  -- at most one is left
-  pub order_last : length ts ≤ i → in_order cmp (drop j ts) ≡ true
-  order_last h = short (drop j ts) (omega (arith, length-drop j ts))
+  each : (xs : List X) → AllAdjacentBelow (λ x y. true ≡ e x y) xs (length xs) → F xs ≡ true
+  each [] a = none
+  each (x ∷ []) a = one x
+  each (x ∷ y ∷ ys) a = more x y ys ∙ and_from (e x y) (F (y ∷ ys)) (sym (a 0 x (omega arith))) (each (y ∷ ys) (λ k d h. a (suc k) d (omega arith) ∙ shifted x (y ∷ ys) k d))
+
+  fails : (xs : List X) (k : ℕ) → k + 1 < length xs → ((d : X) → false ≡ e (get_or xs k d) (get_or xs (k + 1) d)) → F xs ≡ false
+  fails [] k h a = absurd (omega arith)
+  fails (x ∷ []) k h a = absurd (omega arith)
+  fails (x ∷ y ∷ ys) zero h a = more x y ys ∙ ap (λ b. b && F (y ∷ ys)) (sym (a x))
+  fails (x ∷ y ∷ ys) (suc k) h a = more x y ys ∙ ap (λ b. e x y && b) (fails (y ∷ ys) k (omega arith) (λ d. a d ∙ shifted x (y ∷ ys) k d)) ∙ no (e x y)
     where
-      short : (us : List (Table K)) → length us ≤ 1 → in_order cmp us ≡ true
-      short [] l = refl
-      short (u ∷ []) l = refl
-      short (u ∷ v ∷ us) l = absurd (omega arith)
+      no : (b : Bool) → (b && false) ≡ false
+      no true = refl
+      no false = refl
+
+  pub neighbours_are : (xs : List X) (b : Bool) → IsAllAdjacentAnswer (λ x y a. a ≡ e x y) xs b → b ≡ F xs
+  neighbours_are xs true a = sym (each xs a)
+  neighbours_are xs false a = sym (fails xs a.0 a.1 a.2)
 
 -- the runs, one table further
 pub counts_at : {K : Type 0} (n : ℕ) (ts : List (Table K)) (i : ℕ) (t : Table K) → i < length ts → t ≡ get_or ts i t

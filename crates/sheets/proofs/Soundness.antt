@@ -1,11 +1,12 @@
 -- The test of a sheet says that the sheet is sound, and the other way round.
 use Rattle.std.proofs.Common.{◌≡◌, ℕ, suc, ◌^◌, ◌<◌, ◌≤◌, true, false, cond, not, ◌&&◌, eqb, leb, ◌⊎◌, List, [], ◌∷◌, Decides, Ordering, sym, refl, ap, ◌∙◌, subst, inl, inr, arith}
+use Rattle.std.specs.List.{list_all}
 use Rattle.std.specs.Ordering.{is_lt}
 use Rattle.std.proofs.lemmas.Bool.{eq-eqb, ne_eqb, eqb-true, eqb-false, le-leb, leb-true, and_parts, and_from, not-true, not_from_false, cases_order, cases_eq}
 use Rattle.keys.specs.KeyKind.{Laws}
 use Rattle.runs.specs.declared.table.Table.{Table}
 use Rattle.sheets.specs.Level.{numbers_of, size_of, Stacked}
-use Rattle.sheets.specs.Members.{In, here, later, Every, Pairs, none, more, all_by}
+use Rattle.sheets.specs.Members.{In, here, later, Every, Pairs, none, more}
 use Rattle.sheets.specs.Sound.{Occupied, Proper, Sound, distinct, counts_on, within_limits, leads, in_order, tables_ok, sheet_ok}
 use Rattle.sheets.proofs.Ascends.{Ahead, by_level, by_run, by_key, ahead_from, ahead_to, ahead_chain, apart_from, order_from, ordered_ascends, sound_stacked}
 use Rattle.sheets.proofs.Distinct.{differ_from, differ_to}
@@ -152,7 +153,7 @@ module _ {K : Type 0} {cmp : K → K → Ordering} (laws : Laws cmp) where
       let a = and_parts (leb room 1024) _ h in
       let b = and_parts (leb standing room) _ a.1 in
       let c = and_parts (leb blobs (2 ^ 53)) (tables_ok cmp ts) b.1 in
-      let d = and_parts (all_by (within_limits cmp) ts) _ c.1 in
+      let d = and_parts (list_all (within_limits cmp) ts) _ c.1 in
       let e = and_parts (leb (size_of ts) (2 ^ 53)) _ d.1 in
       let f = and_parts (in_order cmp ts) _ e.1 in
       let g = and_parts (counts_on 0 ts) (distinct (numbers_of ts)) f.1 in

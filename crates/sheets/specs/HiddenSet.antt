@@ -1,6 +1,6 @@
 -- The hidden set as the list of its numbers, in the order in which they were hidden.
 use Rattle.std.specs.Prelude.{ℕ, Bool, cond, not, List, [], ◌∷◌, ◌++◌, take, filter}
-use Rattle.sheets.specs.Members.{some}
+use Rattle.std.specs.List.{list_any}
 use Rattle.sheets.specs.Tables.{memb}
 use Rattle.sheets.specs.declared.hidden_set.HiddenSet.{HiddenSet}
 
@@ -10,7 +10,7 @@ hidden set = take set.count set.ids
 
 -- one of the numbers is hidden
 abbrev pub blocked : List ℕ → List ℕ → Bool
-blocked hs numbers = some (λ n. memb n hs) numbers
+blocked hs numbers = list_any (λ n. memb n hs) numbers
 
 -- the hidden numbers, and behind them, in their order, those that were not hidden yet
 abbrev pub hiding : List ℕ → List ℕ → List ℕ

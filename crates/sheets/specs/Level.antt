@@ -1,7 +1,8 @@
 -- Levels of a sheet: which tables stand in one, how many they are, and what they weigh.
 use Rattle.std.specs.Prelude.{◌≡◌, ℕ, suc, ◌≤◌, max, Bool, cond, List, [], ◌∷◌, map, length, sum_by, filter, ◌==◌}
+use Rattle.std.specs.List.{list_any}
 use Rattle.runs.specs.declared.table.Table.{Table}
-use Rattle.sheets.specs.Members.{Pairs, some}
+use Rattle.sheets.specs.Members.{Pairs}
 use Rattle.sheets.specs.Tables.{named, without}
 
 module _ {K : Type 0} where
@@ -27,11 +28,11 @@ module _ {K : Type 0} where
 
   -- level n has a table
   abbrev pub filled : List (Table K) → ℕ → Bool
-  filled ts n = some (in_level n) ts
+  filled ts n = list_any (in_level n) ts
 
   -- level n has a hidden table
   abbrev pub touched : List ℕ → List (Table K) → ℕ → Bool
-  touched hs ts n = some (named hs) (level_of n ts)
+  touched hs ts n = list_any (named hs) (level_of n ts)
 
   -- the free bytes of level n: those of its tables that are not hidden
   abbrev pub free_of : List ℕ → List (Table K) → ℕ → ℕ

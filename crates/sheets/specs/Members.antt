@@ -1,5 +1,5 @@
--- Who stands in a list, and what holds of each, of some, and of each two.
-use Rattle.std.specs.Prelude.{◌≡◌, Bool, true, false, cond, ◌&&◌, List, [], ◌∷◌}
+-- Who stands in a list, and what holds of each and of each two.
+use Rattle.std.specs.Prelude.{◌≡◌, List, [], ◌∷◌}
 
 -- x stands in the list
 pub data In {X : Type 0} (x : X) : List X → Type 0 where
@@ -14,13 +14,3 @@ Every {X} P xs = (x : X) → In x xs → P x
 pub data Pairs {X : Type 0} (R : X → X → Type 0) : List X → Type 0 where
   none : Pairs R []
   more : {x : X} {xs : List X} → ((y : X) → In y xs → R x y) → Pairs R xs → Pairs R (x ∷ xs)
-
--- some pass the test
-abbrev pub some : {X : Type 0} → (X → Bool) → List X → Bool
-some p [] = false
-some p (x ∷ xs) = cond (p x) true (some p xs)
-
--- all pass the test
-abbrev pub all_by : {X : Type 0} → (X → Bool) → List X → Bool
-all_by p [] = true
-all_by p (x ∷ xs) = p x && all_by p xs

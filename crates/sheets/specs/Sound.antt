@@ -1,13 +1,13 @@
 -- A sound sheet: in words, pair by pair, and as a test, neighbour by neighbour.
 use Rattle.std.specs.Prelude.{◌≡◌, ℕ, suc, ◌^◌, ◌<◌, ◌≤◌, Bool, true, false, cond, not, ◌&&◌, List, [], ◌∷◌, ◌==◌, nat_le}
+use Rattle.std.specs.List.{list_all}
 use Rattle.std.specs.declared.cmp.Ordering.{Ordering}
-use Rattle.std.specs.Ordering.{is_lt, ordering_then}
-use Rattle.keys.specs.KeyKind.{by_number}
+use Rattle.std.specs.Ordering.{is_lt}
 use Rattle.keys.specs.KeyRange.{meets}
 use Rattle.runs.specs.declared.table.Table.{Table}
 use Rattle.sheets.specs.Level.{numbers_of, size_of}
-use Rattle.sheets.specs.Members.{In, Every, Pairs, all_by}
-use Rattle.sheets.specs.Tables.{memb, sooner}
+use Rattle.sheets.specs.Members.{In, Every, Pairs}
+use Rattle.sheets.specs.Tables.{memb, comes_before, sooner}
 
 -- ---- in words
 module _ {K : Type 0} where
@@ -71,7 +71,7 @@ module _ {K : Type 0} (cmp : K → K → Ordering) where
 
   -- an earlier level; or an earlier run of it; or, in one run, an end before the other's begin
   abbrev pub ahead : Table K → Table K → Bool
-  ahead t u = is_lt (ordering_then (by_number t.level u.level) (ordering_then (by_number t.run u.run) (cmp t.range.max u.range.min)))
+  ahead t u = comes_before cmp t t.range.max u
 
   -- ahead of the next, if any
   abbrev pub leads : Table K → List (Table K) → Bool
@@ -85,7 +85,7 @@ module _ {K : Type 0} (cmp : K → K → Ordering) where
 
   -- what stands in a sheet that is sound
   abbrev pub tables_ok : List (Table K) → Bool
-  tables_ok ts = all_by within_limits ts && (nat_le (size_of ts) (2 ^ 53) && (in_order ts && (counts_on 0 ts && distinct (numbers_of ts))))
+  tables_ok ts = list_all within_limits ts && (nat_le (size_of ts) (2 ^ 53) && (in_order ts && (counts_on 0 ts && distinct (numbers_of ts))))
 
   -- the test of a sheet
   abbrev pub sheet_ok : ℕ → ℕ → ℕ → List (Table K) → Bool

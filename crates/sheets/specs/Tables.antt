@@ -1,16 +1,14 @@
 -- Words for the tables of a sheet.
-use Rattle.std.specs.Prelude.{ℕ, Bool, true, false, cond, not, List, [], ◌∷◌, ◌++◌, filter, ◌==◌}
+use Rattle.std.specs.Prelude.{ℕ, Bool, cond, not, List, [], ◌∷◌, ◌++◌, filter, ◌==◌}
 use Rattle.std.specs.declared.cmp.Ordering.{Ordering}
-use Rattle.std.specs.Ordering.{is_lt, ordering_then}
-use Rattle.std.specs.List.{prefix_len}
-use Rattle.keys.specs.KeyKind.{by_number}
+use Rattle.std.specs.Ordering.{is_lt, ordering_then, nat_cmp}
+use Rattle.std.specs.List.{prefix_len, list_any}
 use Rattle.runs.specs.declared.table.Table.{Table}
 use Rattle.runs.specs.declared.fresh.Fresh.{Fresh}
 
 -- the number is in the list
 abbrev pub memb : ℕ → List ℕ → Bool
-memb n [] = false
-memb n (x ∷ xs) = cond (x == n) true (memb n xs)
+memb n xs = list_any (λ x. x == n) xs
 
 module _ {K : Type 0} where
   -- the table's number is in the list
@@ -33,14 +31,14 @@ module _ {K : Type 0} where
   abbrev pub placed : ℕ → ℕ → Table K → Table K
   placed level run t = record { number = t.number; level = level; run = run; range = t.range; size = t.size; created = t.created; linked = t.linked }
 
-  -- a fresh table at a level and run
-  abbrev pub settled : ℕ → ℕ → Fresh K → Table K
-  settled level run f = record { number = f.number; level = level; run = run; range = f.range; size = f.size; created = f.created; linked = f.linked }
-
 module _ {K : Type 0} (cmp : K → K → Ordering) where
+  -- by level, run and key, where t stands at the key and u at its min
+  abbrev pub comes_before : Table K → K → Table K → Bool
+  comes_before t key u = is_lt (ordering_then (nat_cmp t.level u.level) (ordering_then (nat_cmp t.run u.run) (cmp key u.range.min)))
+
   -- the order of the sheet: by level, run, min
   abbrev pub sooner : Table K → Table K → Bool
-  sooner t u = is_lt (ordering_then (by_number t.level u.level) (ordering_then (by_number t.run u.run) (cmp t.range.min u.range.min)))
+  sooner t u = comes_before t t.range.min u
 
   -- how many stand before the first that t comes sooner than
   abbrev pub place : Table K → List (Table K) → ℕ

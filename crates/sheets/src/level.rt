@@ -1,9 +1,9 @@
 //! Levels of a sheet, each a stretch of it. What is public here serves the crates above, which have tested the sheet: hence the `requires`.
 ghost use Rattle.std.specs.Prelude.{◌≡◌, ◌^◌, ◌≤◌, length, count_by, nat_lt};
+ghost use Rattle.std.specs.List.{list_any};
 ghost use Rattle.sheets.specs.Edits.{laid};
 ghost use Rattle.sheets.specs.HiddenSet.{hidden};
 ghost use Rattle.sheets.specs.Level.{numbers_of, size_of, level_of, touched, runs, Stacked};
-ghost use Rattle.sheets.specs.Members.{some};
 ghost use Rattle.sheets.specs.Tables.{named, without};
 
 use crate::hidden_set::HiddenSet;
@@ -30,17 +30,7 @@ fn level_start<K>(tables: &[Table<K>], n: u16) -> usize
     ensures count { result ≡ count_by (λ t. nat_lt t.level n) tables.now }
     ensures within { result ≤ length tables.now }
 {
-    let mut low = 0;
-    let mut high = tables.len();
-    while low < high {
-        let mid = low + (high - low) / 2;
-        if (tables[mid].level as u16) < n {
-            low = mid + 1;
-        } else {
-            high = mid;
-        }
-    }
-    low
+    tables.partition_point(|t| (t.level as u16) < n)
 }
 
 /// How many runs level 0 has.
@@ -48,24 +38,17 @@ pub fn run_count<K>(tables: &[Table<K>]) -> usize
     requires { Stacked tables.now }
     ensures { result ≡ runs tables.now }
 {
-    let level = level(tables, 0);
-    let count = level.tables.len();
-    if count == 0 {
-        return 0;
-    }
-    level.tables[count - 1].run as usize + 1
+    level(tables, 0)
+        .tables
+        .last()
+        .map_or(0, |t| t.run as usize + 1)
 }
 
 /// Whether one of the tables is hidden.
 pub fn has_hidden<K>(tables: &[Table<K>], set: &HiddenSet) -> bool
-    ensures { result ≡ some (named (hidden set.now)) tables.now }
+    ensures { result ≡ list_any (named (hidden set.now)) tables.now }
 {
-    for t in tables {
-        if set.is_hidden(t.number) {
-            return true;
-        }
-    }
-    false
+    tables.iter().any(|t| set.is_hidden(t.number))
 }
 
 /// Whether level `n` has a hidden table.
@@ -81,11 +64,7 @@ pub fn size<K>(tables: &[Table<K>]) -> u64
     requires { size_of tables.now ≤ 2 ^ 53 }
     ensures { result ≡ size_of tables.now }
 {
-    let mut bytes = 0;
-    for t in tables {
-        bytes += t.size;
-    }
-    bytes
+    tables.iter().map(|t| t.size).sum()
 }
 
 /// The bytes of the tables that are not hidden.
@@ -93,13 +72,11 @@ pub fn free_size<K>(tables: &[Table<K>], set: &HiddenSet) -> u64
     requires { size_of tables.now ≤ 2 ^ 53 }
     ensures { result ≡ size_of (without (hidden set.now) tables.now) }
 {
-    let mut free = 0;
-    for t in tables {
-        if !set.is_hidden(t.number) {
-            free += t.size;
-        }
-    }
-    free
+    tables
+        .iter()
+        .filter(|t| !set.is_hidden(t.number))
+        .map(|t| t.size)
+        .sum()
 }
 
 /// Writes the numbers of the tables into the front of the id sheet, whose rest keeps its content.
@@ -107,7 +84,7 @@ pub fn list_ids<K>(tables: &[Table<K>], ids: &mut [u64])
     requires { length tables.now ≤ length ids.old }
     ensures { ids.new ≡ laid (numbers_of tables.now) ids.old }
 {
-    for i in 0..tables.len() {
-        ids[i] = tables[i].number;
+    for (i, t) in tables.iter().enumerate() {
+        ids[i] = t.number;
     }
 }

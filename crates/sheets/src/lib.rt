@@ -3,4 +3,5 @@
 
 pub mod hidden_set;
 pub mod level;
+pub mod order;
 pub mod sound;

@@ -1,19 +1,19 @@
 //! The test of a sheet: whether what stands in it is sound.
-ghost use Rattle.std.specs.Prelude.{◌≡◌, ◌^◌, ◌≤◌, length, take, Decides, nat_le};
+ghost use Rattle.std.specs.Prelude.{◌≡◌, ◌≤◌, length, take, Decides};
+ghost use Rattle.std.specs.List.{list_all};
 ghost use Rattle.std.specs.List.Sorted.{IsNonDecreasing};
-ghost use Rattle.sheets.specs.Level.{numbers_of, size_of};
-ghost use Rattle.sheets.specs.Members.{all_by};
+ghost use Rattle.sheets.specs.Level.{numbers_of};
 ghost use Rattle.sheets.specs.Sound.{Sound, within_limits, ahead, in_order, counts_on, distinct, tables_ok, sheet_ok};
 
 use crate::level::list_ids;
+use crate::order::comes_before;
 use keys::key_kind::KeyKind;
+pub use runs::sizes::MOST_BYTES;
+use runs::sizes::total_size;
 use runs::table::Table;
 
 /// The most tables that a sheet has room for.
 pub const MOST_TABLES: usize = 1024;
-
-/// The most bytes of a size, a linked sum, the total of sizes and the blob total: 2^53.
-pub const MOST_BYTES: u64 = 9_007_199_254_740_992;
 
 /// The deepest level.
 pub const LAST_LEVEL: u8 = 6;
@@ -26,7 +26,7 @@ pub fn is_sound<K: KeyKind>(sheet: &[Table<K>], standing: usize, blob_total: u64
     if sheet.len() > MOST_TABLES || standing > sheet.len() || blob_total > MOST_BYTES {
         return false;
     }
-    are_sound(&sheet[0..standing])
+    are_sound(&sheet[..standing])
 }
 
 // Whether the tables that stand are sound; the sort comes last.
@@ -35,7 +35,7 @@ fn are_sound<K: KeyKind>(tables: &[Table<K>]) -> bool
     ensures { result ≡ tables_ok K.ranks tables.now }
 {
     are_within_limits(tables)
-        && total_is_within_limits(tables)
+        && total_size(tables, MOST_BYTES).is_some()
         && are_in_order(tables)
         && runs_count_on(tables)
         && numbers_differ(tables)
@@ -53,53 +53,23 @@ fn is_within_limits<K: KeyKind>(t: &Table<K>) -> bool
 
 // Whether each table is within the limits.
 fn are_within_limits<K: KeyKind>(tables: &[Table<K>]) -> bool
-    ensures { result ≡ all_by (within_limits K.ranks) tables.now }
+    ensures { result ≡ list_all (within_limits K.ranks) tables.now }
 {
-    for t in tables {
-        if !is_within_limits(t) {
-            return false;
-        }
-    }
-    true
-}
-
-// Whether the sizes together are not too large.
-fn total_is_within_limits<K>(tables: &[Table<K>]) -> bool
-    ensures { result ≡ nat_le (size_of tables.now) (2 ^ 53) }
-{
-    let mut left = MOST_BYTES;
-    for t in tables {
-        if t.size > left {
-            return false;
-        }
-        left -= t.size;
-    }
-    true
+    tables.iter().all(|t| is_within_limits(t))
 }
 
 // Whether a table comes before another and, in one run, ends before it begins.
 fn is_ahead<K: KeyKind>(t: &Table<K>, u: &Table<K>) -> bool
     ensures { result ≡ ahead K.ranks t.now u.now }
 {
-    if t.level != u.level {
-        return t.level < u.level;
-    }
-    if t.run != u.run {
-        return t.run < u.run;
-    }
-    t.range.max.compare(&u.range.min).is_lt()
+    comes_before(t, &t.range.max, u)
 }
 
 // Whether each table is ahead of the next.
 fn are_in_order<K: KeyKind>(tables: &[Table<K>]) -> bool
     ensures { result ≡ in_order K.ranks tables.now }
 {
-    for i in 1..tables.len() {
-        if !is_ahead(&tables[i - 1], &tables[i]) {
-            return false;
-        }
-    }
-    true
+    tables.is_sorted_by(|t, u| is_ahead(t, u))
 }
 
 // Whether the runs of level 0 count from 0 without gaps, and any other level has run 0 alone.
@@ -128,7 +98,7 @@ fn numbers_differ<K>(tables: &[Table<K>]) -> bool
     ensures { result ≡ distinct (numbers_of tables.now) }
 {
     let mut room = [0u64; MOST_TABLES];
-    let numbers = &mut room[0..tables.len()];
+    let numbers = &mut room[..tables.len()];
     list_ids(tables, numbers);
     numbers.sort_unstable();
     neighbours_differ(numbers)
@@ -139,10 +109,5 @@ fn neighbours_differ(sorted: &[u64]) -> bool
     requires { IsNonDecreasing sorted.now }
     ensures { result ≡ distinct sorted.now }
 {
-    for i in 1..sorted.len() {
-        if sorted[i - 1] == sorted[i] {
-            return false;
-        }
-    }
-    true
+    sorted.is_sorted_by(|m, n| m != n)
 }

@@ -20,7 +20,7 @@ impl HiddenSet {
     pub fn as_slice(&self) -> &[u64]
         ensures { result.now ≡ hidden self.now }
     {
-        &self.ids[0..self.count]
+        &self.ids[..self.count]
     }
 
     /// How many tables are hidden.
@@ -48,12 +48,7 @@ impl HiddenSet {
     pub fn is_blocked(&self, ids: &[u64]) -> bool
         ensures { result ≡ blocked (hidden self.now) ids.now }
     {
-        for id in ids {
-            if self.is_hidden(*id) {
-                return true;
-            }
-        }
-        false
+        ids.iter().any(|id| self.is_hidden(*id))
     }
 
     /// Hides the tables that are not hidden yet, behind those that are, and says whether they fit; where they do not, hides none.
@@ -80,6 +75,7 @@ impl HiddenSet {
     pub fn show(&mut self, ids: &[u64])
         ensures { hidden self.new ≡ showing ids.now (hidden self.old) }
     {
+        // The array is read ahead of where it is written, so the loop goes by index.
         let mut left = 0;
         for i in 0..self.count {
             let id = self.ids[i];
@@ -95,8 +91,6 @@ impl HiddenSet {
     pub fn truncate(&mut self, from: usize)
         ensures { hidden self.new ≡ take from (hidden self.old) }
     {
-        if from < self.count {
-            self.count = from;
-        }
+        self.count = self.count.min(from);
     }
 }

@@ -1,18 +1,16 @@
-use Rattle.std.proofs.Common.{sym, arith}
-use Rattle.sheets.proofs.Inserts.{place_here, place_later, place_last}
+use Rattle.std.proofs.Common.{◌≡◌, ◌+◌, true, false, cond, not, take, unwrap_or, refl, sym, ap, ◌∙◌, arith, rules}
+use Rattle.std.proofs.lemmas.List.{length-take-le}
+use Rattle.std.proofs.lemmas.Iterator.{YieldsList-from_slice, IsFirst-from_position, index_from_first}
+use borrow.Author.Tests.{tests}
+use Rattle.sheets.specs.Tables.{sooner, place}
 use Rattle.edits.proofs.order.place_of.Goals as goal
-
-pub returns-then-is_sooner : goal.returns-then-is_sooner
-returns-then-is_sooner g c =
-    let here = place_here g.K.KeyKind.ranks c.args.table.now c.args.sheet.now c.args.count c.requires c.loop-i.i c.index-sheet-i.result c.loop-i-test.true c.index-sheet-i.is (sym c.if-is_sooner.ensures) in
-    omega (arith, c.loop-i.invariant, here)
-
-pub loop-i-preserved : goal.loop-i-preserved
-loop-i-preserved g c =
-    let later = place_later g.K.KeyKind.ranks c.args.table.now c.args.sheet.now c.args.count c.requires c.loop-i.i c.index-sheet-i.result c.loop-i-test.true c.index-sheet-i.is (sym c.if-is_sooner.ensures) in
-    omega (arith, c.loop-i.invariant, later)
 
 pub returns : goal.returns
 returns g c =
-    let last = place_last g.K.KeyKind.ranks c.args.table.now c.args.sheet.now c.args.count c.requires c.loop-i.i c.loop-i-test.false in
-    omega (arith, c.loop-i.invariant, last)
+    let before = place g.K.KeyKind.ranks c.args.table.now in
+    let p = sooner g.K.KeyKind.ranks c.args.table.now in
+    let us = take c.args.count c.args.sheet.now in
+    let first = IsFirst-from_position _ _ c.position.result (λ u. p u ≡ true) (λ u. p u ≡ false) c.position.ensures.ran (YieldsList-from_slice us (cc)) (λ x q k. search (rules, tests)) (λ x q k. search (rules, tests)) in
+    c.unwrap_or.ensures
+    ∙ ap (unwrap_or c.position.result) (sym (length-take-le c.args.count c.args.sheet.now (omega arith)))
+    ∙ sym (index_from_first before (λ u. p u ≡ true) (λ u. p u ≡ false) refl (λ u us e. ap (λ b. cond (not b) (1 + before us) 0) e) (λ u us e. ap (λ b. cond (not b) (1 + before us) 0) e ∙ omega arith) us c.position.result first)

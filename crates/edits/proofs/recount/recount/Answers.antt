@@ -1,22 +1,33 @@
-use Rattle.std.proofs.Common.{◌<◌, length, arith, rules, eq-eqb, ne_eqb}
-use Rattle.edits.proofs.Recounting.{recount_keep, recount_new, recount_all}
+use Rattle.std.proofs.Common.{◌≡◌, ◌<◌, ◌++◌, length, get_or, take, drop, ap, ◌∙◌, arith, eq-eqb, ne_eqb, sym}
+use Rattle.std.proofs.lemmas.List.{get_or_default, length-take-le, set-get_or}
+use Rattle.sheets.specs.Recount.{counting}
+use Rattle.edits.proofs.Recounting.{recount_keep, recount_new, recount_all, counted_le, length_counting}
 use Rattle.edits.proofs.recount.recount.Goals as goal
 use Rattle.edits.proofs.recount.recount.Goals.{then-t-eq0, else-t-eq0}
 
-pub loop-i-preserved : goal.loop-i-preserved
-loop-i-preserved g c =
-    let xs = c.args.sheet.now in
-    let x = c.index-sheet-i.result in
+pub overflow_add-next : goal.overflow_add-next
+overflow_add-next g c =
+    let t = get_or c.loop-t.t-items c.loop-t.t-index c.t-item.result in
+    omega (arith, c.counted_run-run.ensures, counted_le c.loop-t.last c.loop-t.next t.run, c.loop-t.invariant.few, length-take-le c.args.count c.args.sheet.now (omega arith))
+
+pub loop-t-preserved : goal.loop-t-preserved
+loop-t-preserved g c =
+    let xs = take c.args.count c.args.sheet.now in
+    let ys = c.loop-t.t-items in
+    let i = c.loop-t.t-index in
+    let t = get_or ys i c.t-item.result in
+    let lt : i < length xs = omega arith in
+    let read : t ≡ get_or ys i t = get_or_default ys i c.t-item.result t (omega arith) in
     elim c.if-t-eq0.branch [
-      | then-t-eq0 w ↦ rw (w.sheet-is, w.last-is, w.next-is, w.counted_run-run.ensures) (recount_new xs c.loop-i.sheet c.args.count c.loop-i.last c.loop-i.next c.loop-i.i c.loop-i.invariant c.requires.within c.loop-i.auto.sheet x c.loop-i-test.true c.index-sheet-i.is (eq-eqb x.level 0 w.if-t-eq0.true))
-      | else-t-eq0 w ↦ rw (w.sheet-is, w.last-is, w.next-is) (recount_keep xs c.loop-i.sheet c.args.count c.loop-i.last c.loop-i.next c.loop-i.i c.loop-i.invariant c.requires.within c.loop-i.auto.sheet x c.loop-i-test.true c.index-sheet-i.is (ne_eqb x.level 0 w.if-t-eq0.false))
+      | then-t-eq0 w ↦ rw (w.t-items-is, w.last-is, w.next-is, w.counted_run-run.ensures) (recount_new xs ys c.loop-t.last c.loop-t.next i c.loop-t.invariant c.loop-t.auto.t-items t lt read (eq-eqb t.level 0 w.if-t-eq0.true))
+      | else-t-eq0 w ↦ rw (w.t-items-is, w.last-is, w.next-is, set-get_or ys i c.t-item.result) (recount_keep xs ys c.loop-t.last c.loop-t.next i c.loop-t.invariant c.loop-t.auto.t-items t lt read (ne_eqb t.level 0 w.if-t-eq0.false))
     ]
 
 pub returns : goal.returns
-returns g c = recount_all c.args.sheet.now c.loop-i.sheet c.args.count c.loop-i.last c.loop-i.next c.loop-i.i c.loop-i.invariant c.requires.within c.loop-i.auto.sheet (omega arith)
-
-pub offset_bounds-sheet-i : goal.offset_bounds-sheet-i
-offset_bounds-sheet-i g c = let h : c.loop-i.i < length c.args.sheet.now = omega arith in search rules
-
-pub offset_bounds-sheet-i-then-t-eq0 : goal.offset_bounds-sheet-i-then-t-eq0
-offset_bounds-sheet-i-then-t-eq0 g c = let h : c.loop-i.i < length c.args.sheet.now = omega arith in search rules
+returns g c =
+    let s = c.args.sheet.now in
+    let n = c.args.count in
+    let xs = take n s in
+    let long = length-take-le n s (omega arith) in
+    ap (λ l. l ++ drop n s) (recount_all xs c.loop-t.t-items c.loop-t.last c.loop-t.next c.loop-t.t-index c.loop-t.invariant c.loop-t.auto.t-items (omega arith))
+    ∙ ap (λ k. counting 0 0 xs ++ drop k s) (sym (length_counting xs 0 0 ∙ long))

@@ -1,6 +1,6 @@
 use Rattle.std.proofs.Common.{◌≡◌}
 use Rattle.sheets.specs.Edits.{laid}
-use Rattle.sheets.specs.Tables.{settled}
+use Rattle.runs.specs.Fresh.{settled}
 use Rattle.edits.proofs.Arrivals.{arrived}
 use Rattle.edits.proofs.settling.settle.Given as goal
 

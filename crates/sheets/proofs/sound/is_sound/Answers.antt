@@ -1,4 +1,4 @@
-use Rattle.std.proofs.Common.{◌≡◌, ℕ, ◌-◌, ◌^◌, ◌≤◌, false, List, length, take, Ordering, ap, ◌∙◌, inl, inr, arith}
+use Rattle.std.proofs.Common.{◌≡◌, ℕ, ◌^◌, ◌≤◌, false, List, length, take, Ordering, ◌∙◌, inl, inr, arith}
 use Rattle.std.proofs.lemmas.Bool.{le-leb, lt-leb}
 use Rattle.std.proofs.lemmas.Bool.Decides.{Decides-at}
 use Rattle.runs.specs.declared.table.Table.{Table}
@@ -30,6 +30,5 @@ returns g c =
     let sheet = c.args.sheet.now in
     let standing = c.args.standing in
     let ts = take standing sheet in
-    let same : standing - 0 ≡ standing = omega arith in
-    let test = c.are_sound.ensures ∙ ap (λ n. tables_ok cmp (take n sheet)) same ∙ fitting cmp (length sheet) standing c.args.blob_total ts (omega arith) (omega arith) (omega arith) in
+    let test = c.are_sound.ensures ∙ fitting cmp (length sheet) standing c.args.blob_total ts (omega arith) (omega arith) (omega arith) in
     record { test = test; words = Decides-at _ _ test (test_decides g.met.K.KeyKind.total (length sheet) standing c.args.blob_total ts) }

@@ -1,4 +1,4 @@
-use Rattle.std.proofs.Common.{◌≡◌, ℕ, ◌-◌, ◌≤◌, List, ◌++◌, length, take, ap, ◌∙◌, arith}
+use Rattle.std.proofs.Common.{◌≡◌, ℕ, ◌≤◌, List, ◌++◌, length, take, ap, ◌∙◌, arith}
 use Rattle.std.proofs.lemmas.List.{drop_all, append-nil, length-map, length-take}
 use Rattle.std.proofs.lemmas.List.Sorted.{IsNonDecreasingBy-from_sort}
 use Rattle.sheets.specs.Edits.{laid}
@@ -19,5 +19,5 @@ returns g c =
     let ts = c.args.tables.now in
     let ns = numbers_of ts in
     let ids = c.list_ids.new.ids in
-    let listed : ids ≡ ns = whole ns _ ids (length ts - 0) c.list_ids.ensures (omega (arith, length-map ts (λ t. t.number))) in
+    let listed : ids ≡ ns = whole ns _ ids (length ts) c.list_ids.ensures (omega (arith, length-map ts (λ t. t.number))) in
     c.neighbours_differ.ensures ∙ distinct_shuffled ids c.sort_unstable.new.self c.sort_unstable.ensures.permutation ∙ ap distinct listed

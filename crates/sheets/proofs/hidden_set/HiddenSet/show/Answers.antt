@@ -1,7 +1,6 @@
 use Rattle.std.proofs.Common.{◌≡◌, ◌<◌, not, length, get_or, sym, ap, ◌∙◌, arith}
 use Rattle.std.proofs.lemmas.List.{get_or_default}
 use Rattle.std.proofs.lemmas.List.Filters.{FiltersInPlace-more_no, FiltersInPlace-more_set}
-use Rattle.sheets.proofs.Members.{memb_contains}
 use Rattle.sheets.proofs.hidden_set.HiddenSet.show.Goals as goal
 use Rattle.sheets.proofs.hidden_set.HiddenSet.show.Goals.{then-not-contains, else-not-contains}
 
@@ -12,7 +11,7 @@ loop-i-preserved c =
     let h : i < length ids = omega arith in
     let x = get_or ids i 0 in
     let e : x ≡ get_or ids i x = get_or_default ids i 0 x h in
-    let found = memb_contains x c.args.ids.now c.contains.result c.contains.ensures.cases in
+    let found = c.contains.ensures.value in
     elim c.if-not-contains.branch [
       | then-not-contains w ↦ rw (w.self-is, w.left-is) (FiltersInPlace-more_set c.loop-i.invariant h (ap not (sym found ∙ w.if-not-contains.true)) e)
       | else-not-contains w ↦ rw (w.self-is, w.left-is) (FiltersInPlace-more_no c.loop-i.invariant h (ap not (sym found ∙ w.if-not-contains.false)) e)
