@@ -1,5 +1,6 @@
 -- On tables that are equal but for keys that compare alike, leveled answers alike.
 use Rattle.std.proofs.Common.{◌≡◌, ℕ, zero, suc, ◌-◌, cond, not, ◌&&◌, ◌||◌, eqb, ltb, List, [], ◌∷◌, Some, None, Option, Ordering, refl, ap, ◌∙◌}
+use Rattle.std.specs.List.{list_any}
 use Rattle.keys.specs.Pairing.{Both, CompareAlike}
 use Rattle.runs.specs.declared.table.Table.{Table}
 use Rattle.windows.specs.declared.slice_windows.Window.{Window}
@@ -11,11 +12,10 @@ use Rattle.levels.specs.declared.settings.Settings.{Settings}
 use Rattle.levels.specs.Settings.{in_limits}
 use Rattle.levels.specs.Scores as S
 use Rattle.levels.specs.Targets.{target_at}
-use Rattle.picks.specs.declared.pick.Picked.{Picked}
-use Rattle.picks.specs.declared.pick.Picked.TheVariants as P
+use Rattle.picks.specs.declared.pick.Pick.{Pick}
+use Rattle.picks.specs.declared.pick.Pick.TheVariants as P
 use Rattle.picks.proofs.Alike.{meets_span_alike, inside_span_alike, tables_alike, window_span, pick_alike}
 use Rattle.sheets.specs.Level.{numbers_of, level_of, filled, touched}
-use Rattle.sheets.specs.Members.{some}
 use Rattle.sheets.specs.Tables.{memb}
 use Rattle.sheets.proofs.AlikeLevels.{some_alike, numbers_alike, in_level_alike, level_alike, count_of_alike, filled_alike, touched_alike, free_alike, runs_alike}
 use Rattle.strategies.specs.declared.choice.Kind.TheVariants.{Move, Merge}
@@ -69,7 +69,7 @@ module _ {A B : Type 0} (cmp_a : A → A → Ordering) (cmp_b : B → B → Orde
       and_same (one_run_alike R w)
       (and_same (ap not (some_same (filled ts) (filled us) (λ n. filled_alike R n w) (1 ∷ 2 ∷ 3 ∷ 4 ∷ 5 ∷ []))) (ap not (spans_meet_alike cmp_a cmp_b R alike (level_span 0) (level_span 6))))
 
-  none_met_alike : (l : ℕ) → not (some (met cmp_a s ts hs l) ts) ≡ not (some (met cmp_b s us hs l) us)
+  none_met_alike : (l : ℕ) → not (list_any (met cmp_a s ts hs l) ts) ≡ not (list_any (met cmp_b s us hs l) us)
   none_met_alike l = ap not (some_alike (Twin R) (met cmp_a s ts hs l) (met cmp_b s us hs l) (met_alike l) w)
 
   hides_alike : (l : ℕ) → (touched hs ts 0 || touched hs ts l) ≡ (touched hs us 0 || touched hs us l)
@@ -97,10 +97,10 @@ module _ {A B : Type 0} (cmp_a : A → A → Ordering) (cmp_b : B → B → Orde
   merged_alike n x t u v = or_same (covered_alike n x t u v) (moved_alike (suc n) x t u v)
 
   -- ---- the answers
-  pub picked_alike : (l n : ℕ) (r : Picked) → picked cmp_a s ts hs l n r ≡ picked cmp_b s us hs l n r
-  picked_alike l n (P.Move x) = naming_alike R Move (suc n) (suc n - (l - 1)) s.target_size _ _ (moved_alike n x) w
-  picked_alike l n (P.Merge m) = naming_alike R Merge (suc n) (suc n - (l - 1)) s.target_size _ _ (merged_alike n m.next) w
-  picked_alike l n P.Nothing = refl
+  pub picked_alike : (l n : ℕ) (r : Option Pick) → picked cmp_a s ts hs l n r ≡ picked cmp_b s us hs l n r
+  picked_alike l n (Some (P.Move x)) = naming_alike R Move (suc n) (suc n - (l - 1)) s.target_size _ _ (moved_alike n x) w
+  picked_alike l n (Some (P.Merge m)) = naming_alike R Merge (suc n) (suc n - (l - 1)) s.target_size _ _ (merged_alike n m.next) w
+  picked_alike l n None = refl
 
   pub pick_for_alike : (n : ℕ) → pick_for cmp_a s ts hs n ≡ pick_for cmp_b s us hs n
   pick_for_alike n =

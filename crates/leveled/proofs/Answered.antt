@@ -1,5 +1,6 @@
 -- Stretches that were named are an answer that names the tables which pass a test.
-use Rattle.std.proofs.Common.{◌≡◌, ℕ, suc, ◌+◌, ◌-◌, ◌≤◌, Bool, true, false, not, ◌&&◌, ◌||◌, eqb, List, [], ◌++◌, length, take, drop, Ok, Err, filter, Ordering, sym, refl, ap, ◌∙◌, inl, inr, add-one, arith}
+use Rattle.std.proofs.Common.{◌≡◌, ℕ, suc, ◌+◌, ◌-◌, ◌≤◌, Bool, true, false, not, ◌&&◌, ◌||◌, eqb, List, [], ◌++◌, length, take, drop, Some, None, Ok, Err, filter, Option, Ordering, sym, refl, ap, ◌∙◌, inl, inr, add-one, arith}
+use Rattle.std.specs.List.{list_any}
 use Rattle.std.proofs.lemmas.List.Filters.{sum_by-filter_both}
 use Rattle.std.proofs.lemmas.List.{append-nil, length-append, length-take, length-drop}
 use Rattle.std.proofs.lemmas.List.Sums.{sum_by-append, length-filter, count_by-le-length}
@@ -15,15 +16,14 @@ use Rattle.windows.specs.declared.slice_windows.Window.{Window}
 use Rattle.runs.specs.Run.{sorted, span_of}
 use Rattle.windows.specs.SliceWindows.{tables_of}
 use Rattle.picks.specs.declared.merge.Merging.{Merging}
-use Rattle.picks.specs.declared.pick.Picked.{Picked}
-use Rattle.picks.specs.declared.pick.Picked.TheVariants as P
+use Rattle.picks.specs.declared.pick.Pick.{Pick}
+use Rattle.picks.specs.declared.pick.Pick.TheVariants as P
 use Rattle.picks.specs.Merge.{before_span, contained, merging}
 use Rattle.picks.specs.Pick.{pick}
 use Rattle.picks.specs.PickLaw.{Merges}
 use Rattle.picks.proofs.Merges.{stretch_contained}
 use Rattle.sheets.specs.Edits.{laid}
 use Rattle.sheets.specs.Level.{numbers_of, size_of, in_level, level_of, touched, runs}
-use Rattle.sheets.specs.Members.{some}
 use Rattle.sheets.specs.Sound.{tables_ok}
 use Rattle.strategies.specs.declared.choice.Choice.{Choice}
 use Rattle.strategies.specs.declared.choice.Choice.TheVariants as C
@@ -33,7 +33,7 @@ use Rattle.strategies.specs.declared.declined.Declined.TheVariants.{BadSetting}
 use Rattle.strategies.specs.Answer.{Answer, nothing, declines, naming, returned, written}
 use Rattle.leveled.specs.Leveled.{one_run, first_level, scores, met, zero_and, sinks, slides, zero_won, moved, merged, picked, pick_for, won, from_first, leveled}
 use Rattle.leveled.specs.Writing.{going, Gives}
-use Rattle.leveled.proofs.MovesZero.{none_kept}
+use Rattle.leveled.proofs.Kept.{none_kept}
 use Rattle.leveled.specs.Stretches.{stretches_tested}
 
 pub gives_by : {r : Choice} {before after : List ℕ} (a b : Answer) → a ≡ b → Gives a r before after → Gives b r before after
@@ -67,20 +67,17 @@ module _ {K : Type 0} (p : Table K → Bool) (ts xs ys : List (Table K)) (is : f
 
 -- ---- level 0 won
 module _ {K : Type 0} (cmp : K → K → Ordering) (s : Settings) (ts : List (Table K)) (hs : List ℕ) (l : ℕ) where
-  pub won_busy : (touched hs ts 0 || touched hs ts l) ≡ true → nothing ≡ zero_won cmp s ts hs l
-  won_busy h = sym (cond-true (touched hs ts 0 || touched hs ts l) _ _ h)
-
   module _ (free : (touched hs ts 0 || touched hs ts l) ≡ false) (us : List (Table K)) (is : us ≡ filter (met cmp s ts hs l) ts) where
-    unmet : eqb (length us) 0 ≡ not (some (met cmp s ts hs l) ts)
+    unmet : eqb (length us) 0 ≡ not (list_any (met cmp s ts hs l) ts)
     unmet = ap (λ vs. eqb (length vs) 0) is ∙ none_kept (met cmp s ts hs l) ts
 
     pub won_move : runs ts ≡ 1 → length us ≡ 0 → naming Move l 1 s.target_size (zero_and cmp s ts hs l) ts ≡ zero_won cmp s ts hs l
     won_move h i =
-        sym (cond-true (one_run ts && not (some (met cmp s ts hs l) ts)) _ _ (and_from (one_run ts) _ (eq-eqb (runs ts) 1 h) (sym unmet ∙ eq-eqb (length us) 0 i)))
+        sym (cond-true (one_run ts && not (list_any (met cmp s ts hs l) ts)) _ _ (and_from (one_run ts) _ (eq-eqb (runs ts) 1 h) (sym unmet ∙ eq-eqb (length us) 0 i)))
         ∙ sym (cond-false (touched hs ts 0 || touched hs ts l) _ _ free)
 
-    merge : (one_run ts && not (some (met cmp s ts hs l) ts)) ≡ false → naming Merge l 1 s.target_size (zero_and cmp s ts hs l) ts ≡ zero_won cmp s ts hs l
-    merge h = sym (cond-false (one_run ts && not (some (met cmp s ts hs l) ts)) _ _ h) ∙ sym (cond-false (touched hs ts 0 || touched hs ts l) _ _ free)
+    merge : (one_run ts && not (list_any (met cmp s ts hs l) ts)) ≡ false → naming Merge l 1 s.target_size (zero_and cmp s ts hs l) ts ≡ zero_won cmp s ts hs l
+    merge h = sym (cond-false (one_run ts && not (list_any (met cmp s ts hs l) ts)) _ _ h) ∙ sym (cond-false (touched hs ts 0 || touched hs ts l) _ _ free)
 
     pub won_runs : (runs ts ≡ 1 → ⊥) → naming Merge l 1 s.target_size (zero_and cmp s ts hs l) ts ≡ zero_won cmp s ts hs l
     won_runs h = merge (and_left (one_run ts) _ (ne_eqb (runs ts) 1 h))
@@ -131,21 +128,21 @@ module _ {K : Type 0} {cmp : K → K → Ordering} (laws : Laws cmp) (s : Settin
 
 -- ---- the pick, by the two levels that were looked at
 module _ {K : Type 0} (cmp : K → K → Ordering) (s : Settings) (ts : List (Table K)) (hs : List ℕ) (l n : ℕ)
-    (curr next : List (Table K)) (is_curr : curr ≡ level_of n ts) (is_next : next ≡ level_of (n + 1) ts) (r : Picked)
+    (curr next : List (Table K)) (is_curr : curr ≡ level_of n ts) (is_next : next ≡ level_of (n + 1) ts) (r : Option Pick)
     (picks : r ≡ pick cmp (λ t. t.range) (λ t. t.size) (λ t. t.number) hs curr next s.target_size) where
   pick_is : r ≡ pick_for cmp s ts hs n
   pick_is =
       picks ∙ ap (λ us. pick cmp (λ t. t.range) (λ t. t.size) (λ t. t.number) hs us next s.target_size) is_curr
       ∙ ap (λ us. pick cmp (λ t. t.range) (λ t. t.size) (λ t. t.number) hs (level_of n ts) us s.target_size) (is_next ∙ ap (λ k. level_of k ts) (add-one n))
 
-  pub picked_move : (w : Window) → P.Move w ≡ r → naming Move (n + 1) (n + 1 - (l - 1)) s.target_size (moved cmp s ts hs n w) ts ≡ picked cmp s ts hs l n (pick_for cmp s ts hs n)
+  pub picked_move : (w : Window) → Some (P.Move w) ≡ r → naming Move (n + 1) (n + 1 - (l - 1)) s.target_size (moved cmp s ts hs n w) ts ≡ picked cmp s ts hs l n (pick_for cmp s ts hs n)
   picked_move w e = ap (λ k. naming Move k (k - (l - 1)) s.target_size (moved cmp s ts hs n w) ts) (add-one n) ∙ ap (picked cmp s ts hs l n) (e ∙ pick_is)
 
-  pub picked_merge : (m : Merging) → P.Merge m ≡ r
+  pub picked_merge : (m : Merging) → Some (P.Merge m) ≡ r
       → naming Merge (n + 1) (n + 1 - (l - 1)) s.target_size (merged cmp s ts hs n m.next) ts ≡ picked cmp s ts hs l n (pick_for cmp s ts hs n)
   picked_merge m e = ap (λ k. naming Merge k (k - (l - 1)) s.target_size (merged cmp s ts hs n m.next) ts) (add-one n) ∙ ap (picked cmp s ts hs l n) (e ∙ pick_is)
 
-  pub picked_nothing : P.Nothing ≡ r → nothing ≡ picked cmp s ts hs l n (pick_for cmp s ts hs n)
+  pub picked_nothing : None ≡ r → nothing ≡ picked cmp s ts hs l n (pick_for cmp s ts hs n)
   picked_nothing e = ap (picked cmp s ts hs l n) (e ∙ pick_is)
 
 -- ---- all steps, where the settings are within their limits
@@ -162,22 +159,3 @@ module _ {K : Type 0} (cmp : K → K → Ordering) (s : Settings) (ts : List (Ta
 
     pub leveled_won : slides cmp s ts hs l ≡ false → won cmp s ts hs l (chosen (scores s ts hs l)) ≡ leveled cmp s ts hs
     leveled_won h = sym (cond-false (slides cmp s ts hs l) _ _ h) ∙ from
-
--- ---- the settings
-module _ (s : Settings) where
-  pub limits_kept : (u : Unit {0}) → Ok u ≡ checked s → in_limits s ≡ true
-  limits_kept u e =
-      elim (cases_Bool (in_limits s)) [
-        | inl b ↦ b
-        | inr b ↦ absurd (let r : checked s ≡ Err R.BadSetting = cond-false (in_limits s) _ _ b in let y : ◌≡◌ {A = ℕ} 0 1 = cc in omega arith)
-      ]
-
-  pub limits_broken : (x : Refusal) → Err x ≡ checked s → in_limits s ≡ false
-  limits_broken x e =
-      elim (cases_Bool (in_limits s)) [
-        | inl b ↦ absurd (let r : checked s ≡ Ok tt = cond-true (in_limits s) _ _ b in let y : ◌≡◌ {A = ℕ} 0 1 = cc in omega arith)
-        | inr b ↦ b
-      ]
-
-pub leveled_refused : {K : Type 0} (cmp : K → K → Ordering) (s : Settings) (ts : List (Table K)) (hs : List ℕ) → in_limits s ≡ false → declines BadSetting ≡ leveled cmp s ts hs
-leveled_refused cmp s ts hs h = sym (cond-false (in_limits s) _ _ h)

@@ -1,8 +1,8 @@
 pub mod Alike
 pub mod Answered
 pub mod FirstLevels
+pub mod Kept
 pub mod Layouts
-pub mod MovesZero
 pub mod Overlapped
 pub mod Picks
 pub mod Scored

@@ -1,14 +1,13 @@
 -- The score of a level, case by case.
-use Rattle.std.proofs.Common.{◌≡◌, ℕ, zero, suc, ◌-◌, ◌<◌, ◌≤◌, true, false, cond, not, ◌&&◌, eqb, leb, List, length, get_or, Some, None, Ordering, sym, refl, ap, ◌∙◌, inl, inr, arith}
+use Rattle.std.proofs.Common.{◌≡◌, ℕ, zero, suc, ◌<◌, ◌≤◌, true, false, cond, not, ◌&&◌, eqb, leb, List, length, get_or, Some, None, Ordering, sym, refl, ap, ◌∙◌, inl, inr, arith}
 use lib.Ieee.{Float, nan, of_int, lt}
 use Rattle.std.proofs.lemmas.List.FromFn.{get_or-map-range_with_len}
 use Rattle.std.proofs.lemmas.List.Sums.{length-filter, count_by-le-length}
-use Rattle.std.proofs.lemmas.Bool.{both_ways, cases_Bool, cases_lt, and_left, and_right, and_from, cond-true, cond-false, eq-eqb, ne_eqb, le-leb, lt-leb}
+use Rattle.std.proofs.lemmas.Bool.{both_ways, cases_Bool, cases_lt, and_left, cond-true, cond-false, ne_eqb, lt-leb}
 use Rattle.levels.specs.declared.settings.Settings.{Settings}
-use Rattle.levels.specs.Scores.{double, none, first_level_score, level_score, winner, chosen}
-use Rattle.levels.specs.Targets.{target_at}
+use Rattle.levels.specs.Scores.{double, none, winner, chosen}
 use Rattle.runs.specs.declared.table.Table.{Table}
-use Rattle.sheets.specs.Level.{size_of, in_level, level_of, count_of, filled, free_of}
+use Rattle.sheets.specs.Level.{size_of, in_level, level_of, count_of, free_of}
 use Rattle.sheets.proofs.Levels.{without_less, level_less}
 use Rattle.leveled.specs.Leveled.{score_of, scores, zero_won, picked, pick_for, won}
 use Rattle.leveled.specs.Laws.{wins_low}
@@ -21,23 +20,12 @@ module _ {K : Type 0} (ts : List (Table K)) (n : ℕ) where
   free_less hs = omega (arith, without_less hs (level_of n ts), level_less n ts)
 
 module _ {K : Type 0} (s : Settings) (ts : List (Table K)) (hs : List ℕ) (l n : ℕ) where
-  pub score_zero : n ≡ 0 → score_of s ts hs l n ≡ first_level_score (count_of ts 0) s.threshold
-  unfolding score_of
-  score_zero e = cond-true (eqb n 0) _ _ (eq-eqb n 0 e)
-
   score_out : (n ≡ 0 → ⊥) → (leb l n && leb n 5) ≡ false → score_of s ts hs l n ≡ none
   unfolding score_of
   score_out z e = cond-false (eqb n 0) _ _ (ne_eqb n 0 z) ∙ cond-false (leb l n && leb n 5) _ _ e
 
-  pub score_in : (n ≡ 0 → ⊥) → l ≤ n → n ≤ 5 → score_of s ts hs l n ≡ level_score (free_of hs ts n) (target_at s (n - (l - 1))) (not (filled ts (suc n)))
-  unfolding score_of
-  score_in z h i = cond-false (eqb n 0) _ _ (ne_eqb n 0 z) ∙ cond-true (leb l n && leb n 5) _ _ (and_from (leb l n) (leb n 5) (le-leb l n h) (le-leb n 5 i))
-
   pub score_low : (n ≡ 0 → ⊥) → n < l → score_of s ts hs l n ≡ none
   score_low z h = score_out z (and_left (leb l n) (leb n 5) (lt-leb l n h))
-
-  pub score_high : (n ≡ 0 → ⊥) → 5 < n → score_of s ts hs l n ≡ none
-  score_high z h = score_out z (and_right (leb l n) (leb n 5) (lt-leb n 5 h))
 
 -- ---- the level that wins
 none_below_one : lt none (double 1) ≡ true

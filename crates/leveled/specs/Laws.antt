@@ -1,6 +1,7 @@
 -- Leveled keeps the law, and says what it names.
 -- Lemmas for a law that an impl owes, whose term can cite specs/ alone: they are proved, and nothing here has to be believed.
 use Rattle.std.specs.Prelude.{◌≡◌, ℕ, zero, suc, ◌-◌, ◌≤◌, true, false, cond, not, ◌&&◌, ◌||◌, ◌⊎◌, List, [], ◌∷◌, Some, None, filter, Option, nat_le, nat_lt, slice_index_or, refl, Float}
+use Rattle.std.specs.List.{list_any}
 use Rattle.std.specs.declared.cmp.Ordering.{Ordering}
 use Rattle.std.proofs.Common.{sym, subst, ◌∙◌, inl, inr, arith}
 use Rattle.std.proofs.Math.Path.{ap}
@@ -17,13 +18,13 @@ use Rattle.windows.specs.SliceWindows.{tables_of}
 use Rattle.levels.specs.declared.settings.Settings.{Settings}
 use Rattle.levels.specs.Settings.{in_limits}
 use Rattle.levels.specs.Scores as S
-use Rattle.picks.specs.declared.pick.Picked.{Picked}
-use Rattle.picks.specs.declared.pick.Picked.TheVariants as P
+use Rattle.picks.specs.declared.pick.Pick.{Pick}
+use Rattle.picks.specs.declared.pick.Pick.TheVariants as P
 use Rattle.picks.specs.Movable.{meets_span, movable}
 use Rattle.picks.specs.PickLaw.{PickLaw}
 use Rattle.picks.proofs.Laws.{pick_law}
 use Rattle.sheets.specs.Level.{in_level, level_of, filled, touched, runs}
-use Rattle.sheets.specs.Members.{In, here, later, Every, Pairs, some}
+use Rattle.sheets.specs.Members.{In, here, later, Every, Pairs}
 use Rattle.sheets.specs.Sound.{Differ, Sound}
 use Rattle.sheets.proofs.Each.{in_kept, kept_in, none_some}
 use Rattle.strategies.specs.declared.choice.Kind.TheVariants.{Move, Merge}
@@ -85,9 +86,12 @@ module _ {K : Type 0} (s : Settings) (ts : List (Table K)) (hs : List ℕ) where
   one_to_six x (later (later (later (later (later (here e)))))) = (omega arith, omega arith)
   one_to_six x (later (later (later (later (later (later m)))))) = elim m [ ]
 
-  -- L1 is 1 to 6
+  -- the first level that has a table is 1 to 6, and so is L1
+  pub first_filled_range : (1 ≤ first_filled ts deeper) × (first_filled ts deeper ≤ 6)
+  first_filled_range = first_range deeper one_to_six
+
   pub first_level_range : (1 ≤ first_level s ts hs) × (first_level s ts hs ≤ 6)
-  first_level_range = lowered_range (first_filled ts deeper) (first_range deeper one_to_six)
+  first_level_range = lowered_range (first_filled ts deeper) first_filled_range
 
 -- ---- the law
 module _ {K : Type 0} {cmp : K → K → Ordering} (laws : Laws cmp) {room standing blobs : ℕ} {ts : List (Table K)} (sound : Sound cmp room standing blobs ts) (s : Settings) (hs : List ℕ) where
@@ -150,7 +154,7 @@ module _ {K : Type 0} {cmp : K → K → Ordering} (laws : Laws cmp) {room stand
   zero_won_lawful : (l : ℕ) → (1 ≤ l) × (l ≤ 6) → Fine (zero_won cmp s ts hs l)
   zero_won_lawful l r =
       cond_both (touched hs ts 0 || touched hs ts l) _ _ Fine (λ e. tt)
-      (λ e. cond_both (one_run ts && not (some (met cmp s ts hs l) ts)) _ _ Fine
+      (λ e. cond_both (one_run ts && not (list_any (met cmp s ts hs l) ts)) _ _ Fine
       (λ y.
       let a = and_parts (one_run ts) _ y in
       let one = eqb-true (runs ts) 1 a.0 in
@@ -190,18 +194,18 @@ module _ {K : Type 0} {cmp : K → K → Ordering} (laws : Laws cmp) {room stand
         ])
       ]
 
-  picked_lawful : (l n : ℕ) → 1 ≤ n → n ≤ 5 → (r : Picked) → PickLaw cmp (λ t. t.range) (λ t. t.size) (λ t. t.number) hs (level_of n ts) (level_of (suc n) ts) s.target_size r → Fine (picked cmp s ts hs l n r)
-  picked_lawful l n low high (P.Move w) law =
+  picked_lawful : (l n : ℕ) → 1 ≤ n → n ≤ 5 → (r : Option Pick) → PickLaw cmp (λ t. t.range) (λ t. t.size) (λ t. t.number) hs (level_of n ts) (level_of (suc n) ts) s.target_size r → Fine (picked cmp s ts hs l n r)
+  picked_lawful l n low high (Some (P.Move w)) law =
       let at : (t : Table K) → In t (filter (moved cmp s ts hs n w) ts) → t.level ≡ n =
       λ t m. let q = in_kept (moved cmp s ts hs n w) ts t m in window_level cmp s ts hs n w t (window_named cmp s ts hs differ n w t q.0 q.1) in
       naming_lawful cmp differ Move (suc n) (suc n - (l - 1)) s.target_size (moved cmp s ts hs n w) (λ g. (omega arith, omega arith))
       (λ g u m e x. moved_unmet n w law.moves u m e)
       (λ e t u m k d. level_unmet laws sound.ordered n (λ q. absurd (omega arith)) t u (in_kept (moved cmp s ts hs n w) ts t m).0 (in_kept (moved cmp s ts hs n w) ts u k).0 (at t m) (at u k) d)
-  picked_lawful l n low high (P.Merge m) law =
+  picked_lawful l n low high (Some (P.Merge m)) law =
       naming_lawful cmp differ Merge (suc n) (suc n - (l - 1)) s.target_size (merged cmp s ts hs n m.next) (λ g. (omega arith, omega arith))
       (λ g u k e x. beside_unmet cmp (λ t. t.range) (filter (merged cmp s ts hs n m.next) ts) u (merged_beside n m.next u k e x))
       (λ q. merge_moves _ q)
-  picked_lawful l n low high P.Nothing law = tt
+  picked_lawful l n low high None law = tt
 
   won_lawful : (l : ℕ) → (1 ≤ l) × (l ≤ 6) → (o : Option ℕ) → ((n : ℕ) → o ≡ Some n → n ≤ 5) → Fine (won cmp s ts hs l o)
   won_lawful l r None f = tt
@@ -226,7 +230,7 @@ module _ {K : Type 0} {cmp : K → K → Ordering} (laws : Laws cmp) {room stand
       (λ i. cond_both (sinks cmp s ts hs) _ _ Fine
       (λ y.
       let a = and_parts (one_run ts) _ y in
-      let b = and_parts (not (some (filled ts) (1 ∷ 2 ∷ 3 ∷ 4 ∷ 5 ∷ []))) _ a.1 in
+      let b = and_parts (not (list_any (filled ts) (1 ∷ 2 ∷ 3 ∷ 4 ∷ 5 ∷ []))) _ a.1 in
       zero_moves 6 (omega arith, omega arith) (eqb-true (runs ts) 1 a.0) (λ u m e. apart_beside laws (λ t. t.range) (level_of 0 ts) (level_of 6 ts) (not-true _ b.1) u (in_level_of 6 u m e)))
       (λ y. from_first_lawful (first_level s ts hs) (first_level_range s ts hs)))
       (λ i. tt)
@@ -239,16 +243,16 @@ module _ {K : Type 0} (cmp : K → K → Ordering) (s : Settings) {ts : List (Ta
   abbrev Says : Answer → Type 0
   Says a = ToldAnswer cmp ts a
 
-  picked_told : (l n : ℕ) (r : Picked) → Says (picked cmp s ts hs l n r)
-  picked_told l n (P.Move w) = naming_told cmp d Move (suc n) (suc n - (l - 1)) s.target_size (moved cmp s ts hs n w)
-  picked_told l n (P.Merge m) = naming_told cmp d Merge (suc n) (suc n - (l - 1)) s.target_size (merged cmp s ts hs n m.next)
-  picked_told l n P.Nothing = tt
+  picked_told : (l n : ℕ) (r : Option Pick) → Says (picked cmp s ts hs l n r)
+  picked_told l n (Some (P.Move w)) = naming_told cmp d Move (suc n) (suc n - (l - 1)) s.target_size (moved cmp s ts hs n w)
+  picked_told l n (Some (P.Merge m)) = naming_told cmp d Merge (suc n) (suc n - (l - 1)) s.target_size (merged cmp s ts hs n m.next)
+  picked_told l n None = tt
 
   won_told : (l : ℕ) (o : Option ℕ) → Says (won cmp s ts hs l o)
   won_told l None = tt
   won_told l (Some zero) =
       cond_both (touched hs ts 0 || touched hs ts l) _ _ Says (λ e. tt)
-      (λ e. cond_both (one_run ts && not (some (met cmp s ts hs l) ts)) _ _ Says
+      (λ e. cond_both (one_run ts && not (list_any (met cmp s ts hs l) ts)) _ _ Says
       (λ y. naming_told cmp d Move l 1 s.target_size (zero_and cmp s ts hs l))
       (λ y. naming_told cmp d Merge l 1 s.target_size (zero_and cmp s ts hs l)))
   won_told l (Some (suc n)) = picked_told l (suc n) (pick_for cmp s ts hs (suc n))

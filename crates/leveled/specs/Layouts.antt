@@ -1,12 +1,12 @@
 -- What the strategies answer on small layouts of stop keys.
 use Rattle.std.specs.Prelude.{◌≡◌, ℕ, true, List, [], ◌∷◌}
+use Rattle.std.specs.List.{list_all}
 use Rattle.keys.specs.declared.stop_key.StopKey.{StopKey}
 use Rattle.keys.specs.StopKey.{stop_ranks}
 use Rattle.runs.specs.declared.table.Table.{Table}
 use Rattle.levels.specs.declared.settings.Settings.{Settings}
 use Rattle.levels.specs.Settings.{defaults, with_target_size, with_threshold, with_ratios}
 use Rattle.levels.specs.Targets.{target_at}
-use Rattle.sheets.specs.Members.{all_by}
 use Rattle.sheets.specs.Sound.{tables_ok}
 use Rattle.strategies.specs.declared.choice.Kind.{Kind}
 use Rattle.strategies.specs.declared.choice.Kind.TheVariants.{Move, Merge, Drop}
@@ -80,7 +80,7 @@ one created = aged 1 0 1 created ∷ []
 
 pub record Layouts : Type 0 where
   -- all sheets are sound
-  pub sound : all_by (tables_ok stop_ranks) ([] ∷ from_5 ∷ from_0 ∷ from_both ∷ with_400 ∷ with_401 ∷ abc ∷ abcd ∷ three ∷ two ∷ one 7 ∷ one 8 ∷ []) ≡ true
+  pub sound : list_all (tables_ok stop_ranks) ([] ∷ from_5 ∷ from_0 ∷ from_both ∷ with_400 ∷ with_401 ∷ abc ∷ abcd ∷ three ∷ two ∷ one 7 ∷ one 8 ∷ []) ≡ true
   -- the target sizes of levels 1 to 3
   pub target_1 : target_at plain 1 ≡ 400
   pub target_2 : target_at plain 2 ≡ 4_000

@@ -1,5 +1,6 @@
 -- Leveled: six steps. `s` are the settings, `ts` the standing tables, `hs` the hidden numbers, `l` is the first level (called L1) and l - 1 the shift.
 use Rattle.std.specs.Prelude.{ℕ, zero, suc, ◌-◌, Bool, cond, not, ◌&&◌, ◌||◌, List, [], ◌∷◌, map, Some, None, Option, ◌==◌, nat_le, nat_lt, Float}
+use Rattle.std.specs.List.{list_any, list_all}
 use Rattle.std.specs.declared.cmp.Ordering.{Ordering}
 use Rattle.runs.specs.declared.table.Table.{Table}
 use Rattle.windows.specs.declared.slice_windows.Window.{Window}
@@ -9,13 +10,12 @@ use Rattle.levels.specs.declared.settings.Settings.{Settings}
 use Rattle.levels.specs.Settings.{in_limits}
 use Rattle.levels.specs.Scores as S
 use Rattle.levels.specs.Targets.{target_at}
-use Rattle.picks.specs.declared.pick.Picked.{Picked}
-use Rattle.picks.specs.declared.pick.Picked.TheVariants as P
+use Rattle.picks.specs.declared.pick.Pick.{Pick}
+use Rattle.picks.specs.declared.pick.Pick.TheVariants as P
 use Rattle.picks.specs.Merge.{inside_span}
 use Rattle.picks.specs.Movable.{meets_span}
 use Rattle.picks.specs.Pick.{pick}
 use Rattle.sheets.specs.Level.{numbers_of, in_level, level_of, filled, touched, count_of, free_of, runs}
-use Rattle.sheets.specs.Members.{some, all_by}
 use Rattle.sheets.specs.Tables.{named}
 use Rattle.strategies.specs.declared.choice.Kind.TheVariants.{Move, Merge}
 use Rattle.strategies.specs.declared.declined.Declined.TheVariants.{BadSetting}
@@ -43,7 +43,7 @@ module _ {K : Type 0} (s : Settings) (ts : List (Table K)) (hs : List ℕ) where
 
   -- 2. the first level falls by 1 if it is not level 1 yet, some level from 1 has a table, and each that has is overfull
   abbrev pub falls : ℕ → Bool
-  falls l = nat_lt 1 l && (some (filled ts) deeper && all_by (overfull l) deeper)
+  falls l = nat_lt 1 l && (list_any (filled ts) deeper && list_all (overfull l) deeper)
 
   abbrev pub lowered : ℕ → ℕ
   lowered l = cond (falls l) (l - 1) l
@@ -73,18 +73,18 @@ module _ {K : Type 0} (cmp : K → K → Ordering) (s : Settings) (ts : List (Ta
   -- 1. level 0 is one run, levels 1 to 5 are empty, and level 6's span does not meet level 0's
   abbrev pub sinks : Bool
   sinks =
-      one_run ts && (not (some (filled ts) (1 ∷ 2 ∷ 3 ∷ 4 ∷ 5 ∷ []))
+      one_run ts && (not (list_any (filled ts) (1 ∷ 2 ∷ 3 ∷ 4 ∷ 5 ∷ []))
       && not (spans_meet cmp (span_of cmp (λ u. u.range) (level_of 0 ts)) (span_of cmp (λ u. u.range) (level_of 6 ts))))
 
   -- 3. level 0 is one run, neither it nor L1 has a hidden table, and L1 has a table and meets level 0's span nowhere
   abbrev pub slides : ℕ → Bool
-  slides l = one_run ts && (not (touched hs ts 0 || touched hs ts l) && (filled ts l && not (some (met l) ts)))
+  slides l = one_run ts && (not (touched hs ts 0 || touched hs ts l) && (filled ts l && not (list_any (met l) ts)))
 
   -- 5. level 0 won: with what it meets in L1, a move if it is one run and meets nothing, else a merge; nothing if either level has a hidden table
   abbrev pub zero_won : ℕ → Answer
   zero_won l =
       cond (touched hs ts 0 || touched hs ts l) nothing
-      (cond (one_run ts && not (some (met l) ts)) (naming Move l 1 s.target_size (zero_and l) ts) (naming Merge l 1 s.target_size (zero_and l) ts))
+      (cond (one_run ts && not (list_any (met l) ts)) (naming Move l 1 s.target_size (zero_and l) ts) (naming Merge l 1 s.target_size (zero_and l) ts))
 
   -- 6. level n won: the tables of a window, or of a window of the next level with those that it contains
   abbrev pub moved : ℕ → Window → Table K → Bool
@@ -97,12 +97,12 @@ module _ {K : Type 0} (cmp : K → K → Ordering) (s : Settings) (ts : List (Ta
   merged n w t = covered n w t || moved (suc n) w t
 
   -- what was picked, into the next level
-  abbrev pub picked : ℕ → ℕ → Picked → Answer
-  picked l n (P.Move w) = naming Move (suc n) (suc n - (l - 1)) s.target_size (moved n w) ts
-  picked l n (P.Merge m) = naming Merge (suc n) (suc n - (l - 1)) s.target_size (merged n m.next) ts
-  picked l n P.Nothing = nothing
+  abbrev pub picked : ℕ → ℕ → Option Pick → Answer
+  picked l n (Some (P.Move w)) = naming Move (suc n) (suc n - (l - 1)) s.target_size (moved n w) ts
+  picked l n (Some (P.Merge m)) = naming Merge (suc n) (suc n - (l - 1)) s.target_size (merged n m.next) ts
+  picked l n None = nothing
 
-  abbrev pub pick_for : ℕ → Picked
+  abbrev pub pick_for : ℕ → Option Pick
   pick_for n = pick cmp (λ t. t.range) (λ t. t.size) (λ t. t.number) hs (level_of n ts) (level_of (suc n) ts) s.target_size
 
   -- 4. by the level that won

@@ -1,3 +1,4 @@
+pub mod Holding
 pub mod Layouts
 pub mod Leveled
 pub mod Promise

@@ -3,6 +3,7 @@
 
 pub mod examples;
 pub mod first_level;
+pub mod holding;
 pub mod merges;
 pub mod moves;
 pub mod overlaps;

@@ -1,35 +1,31 @@
-//! What meets level 0. What is public here serves the steps, which have looked at a tested sheet: hence the `requires`.
+//! What meets level 0. What is public here serves the steps, which look at levels from 1 on: hence the `requires`.
 ghost use Rattle.std.specs.Prelude.{◌≡◌, ◌≤◌, filter};
 ghost use Rattle.runs.specs.Run.{span_of};
 ghost use Rattle.sheets.specs.Level.{level_of};
 ghost use Rattle.strategies.specs.Strategy.{spans_meet};
 ghost use Rattle.leveled.specs.Leveled.{met};
-ghost use Rattle.leveled.specs.Survey.{set_to, standing, hides, Surveyed};
+ghost use Rattle.leveled.specs.Survey.{set_to, standing, hides};
 
 use crate::survey::Survey;
 use keys::key_kind::KeyKind;
 use runs::run::aggregate;
-use runs::search::{End, Reach, partition_point};
+use runs::sorted_run::SortedRun;
 use runs::table::Table;
 
 impl<'a, K: KeyKind> Survey<'a, K> {
     /// Whether the spans of level 0 and level 6 meet. An empty level has none.
     pub fn last_level_overlaps(&self) -> bool
-        requires { Surveyed K.ranks self.now }
         ensures { result ≡ spans_meet K.ranks (span_of K.ranks (λ t. t.range) (level_of 0 (standing self.now))) (span_of K.ranks (λ t. t.range) (level_of 6 (standing self.now))) }
     {
-        let Some(first) = aggregate(self.tables_of(0)) else {
-            return false;
-        };
-        let Some(last) = aggregate(self.tables_of(6)) else {
-            return false;
-        };
-        first.overlaps_with_key_range(&last)
+        let first = aggregate(self.tables_of(0));
+        let last = aggregate(self.tables_of(6));
+        first
+            .zip(last)
+            .is_some_and(|(a, b)| a.overlaps_with_key_range(&b))
     }
 
     /// The tables of a level from 1 on that meet level 0's span: a stretch of the level.
     pub fn get_overlapping(&self, n: u8) -> &'a [Table<K>]
-        requires surveyed { Surveyed K.ranks self.now }
         requires deeper { 1 ≤ n }
         ensures { result.now ≡ filter (met K.ranks (set_to self.now) (standing self.now) (hides self.now) n) (standing self.now) }
     {
@@ -37,8 +33,6 @@ impl<'a, K: KeyKind> Survey<'a, K> {
         let Some(span) = aggregate(self.tables_of(0)) else {
             return &run[0..0];
         };
-        let place = partition_point(run, End::Max, Reach::Before, &span.min);
-        let end = partition_point(run, End::Min, Reach::UpTo, &span.max);
-        &run[place..end.max(place)]
+        SortedRun { tables: run }.overlapping(&span).tables
     }
 }

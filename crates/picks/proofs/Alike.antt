@@ -9,7 +9,7 @@ use Rattle.runs.specs.Run.{span_of}
 use Rattle.windows.specs.SliceWindows.{tables_of, growing, shrinking}
 use Rattle.runs.proofs.Alike.{span_alike}
 use Rattle.sheets.specs.Tables.{memb}
-use Rattle.picks.specs.declared.pick.Picked.TheVariants.{Merge}
+use Rattle.picks.specs.declared.pick.Pick.TheVariants.{Merge}
 use Rattle.picks.specs.Marks.{hidden_among}
 use Rattle.picks.specs.Merge.{cheaper, cheapest_of, inside_span, before_span, contained, begun_before, cost, merging, admissible, cheapest_merge}
 use Rattle.picks.specs.Movable.{first_of, meets_span, movable, longest_movable}
@@ -98,7 +98,7 @@ module _ {A B T U : Type 0} (cmp_a : A → A → Ordering) (cmp_b : B → B → 
 
         at_merge : (o : Option Window) → merge_or_nothing cmp_a spansA bytesA namedA hs curr next target o ≡ merge_or_nothing cmp_b spansB bytesB namedB hs curr' next' target o
         at_merge None = refl
-        at_merge (Some w) = ap Merge (merging_alike w)
+        at_merge (Some w) = ap (λ m. Some (Merge m)) (merging_alike w)
 
         at_move : (o : Option Window) → move_or_merge cmp_a spansA bytesA namedA hs curr next target o ≡ move_or_merge cmp_b spansB bytesB namedB hs curr' next' target o
         at_move None = ap (merge_or_nothing cmp_a spansA bytesA namedA hs curr next target) merge_alike ∙ at_merge (cheapest_merge cmp_b spansB bytesB namedB hs curr' next' target)

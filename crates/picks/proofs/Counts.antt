@@ -30,6 +30,10 @@ module _ {T : Type 0} (f : T → ℕ) (ts : List T) where
         omega (arith, z, sum_mono b a h)
   ]
 
+  -- what stands before a place, and what lies from there to another
+  pub sum_reach : (a b s part : ℕ) → a ≤ b → s ≡ sum_by f (take a ts) → part ≡ sum_by f (take (b - a) (drop a ts)) → s + part ≡ sum_by f (take b ts)
+  sum_reach a b s part h e p = omega (arith, sum_between a b, sum_mono a b h)
+
 module _ {T : Type 0} where
   pub at_le : (p q : T → Bool) (t : T) (ts : List T) (b : Bool) → p t ≡ b → (p t ≡ true → q t ≡ true) → count_by p ts ≤ count_by q ts → count_by p (t ∷ ts) ≤ count_by q (t ∷ ts)
   at_le p q t ts true e f h = omega (arith, count_yes p t ts e, count_yes q t ts (f e))

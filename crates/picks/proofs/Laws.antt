@@ -6,8 +6,8 @@ use Rattle.keys.specs.declared.key_range.KeyRange.{KeyRange}
 use Rattle.windows.specs.declared.slice_windows.Window.{Window}
 use Rattle.windows.specs.SliceWindows.{Within, Shorter, Longer}
 use Rattle.picks.specs.declared.merge.Merging.{Merging}
-use Rattle.picks.specs.declared.pick.Picked.{Picked}
-use Rattle.picks.specs.declared.pick.Picked.TheVariants.{Move, Merge, Nothing}
+use Rattle.picks.specs.declared.pick.Pick.{Pick}
+use Rattle.picks.specs.declared.pick.Pick.TheVariants.{Move, Merge}
 use Rattle.picks.specs.Merge.{admissible, cost, merging, cheapest_merge}
 use Rattle.picks.specs.Movable.{movable, longest_movable}
 use Rattle.picks.specs.Pick.{merge_or_nothing, move_or_merge, pick}
@@ -43,25 +43,21 @@ module _ {K T : Type 0} (cmp : K → K → Ordering) (spans : T → KeyRange K) 
   pick_law = at_move (longest_movable cmp spans named hs curr next) (longest_best ok (length curr))
 
   -- what a function owes that answers with the pick
-  pub record Told (r : Picked) : Type 0 where
+  pub record Told (r : Option Pick) : Type 0 where
     pub picks : r ≡ pick cmp spans bytes named hs curr next target
     pub law : PickLaw cmp spans bytes named hs curr next target r
 
-  told : (r : Picked) → r ≡ pick cmp spans bytes named hs curr next target → Told r
-  told r e = record { picks = e; law = subst (λ (x : Picked). PickLaw cmp spans bytes named hs curr next target x) (sym e) pick_law }
+  told : (r : Option Pick) → r ≡ pick cmp spans bytes named hs curr next target → Told r
+  told r e = record { picks = e; law = subst (λ (x : Option Pick). PickLaw cmp spans bytes named hs curr next target x) (sym e) pick_law }
 
-  abbrev as_merge : Option Merging → Picked
-  as_merge None = Nothing
-  as_merge (Some m) = Merge m
-
-  same_merge : (o : Option Window) → as_merge (option_map (merging cmp spans curr next bytes) o) ≡ merge_or_nothing cmp spans bytes named hs curr next target o
+  same_merge : (o : Option Window) → option_map Merge (option_map (merging cmp spans curr next bytes) o) ≡ merge_or_nothing cmp spans bytes named hs curr next target o
   same_merge None = refl
   same_merge (Some w) = refl
 
   -- the answers of the two searches make the pick
-  pub told_move : (w : Window) → Some w ≡ longest_movable cmp spans named hs curr next → Told (Move w)
-  told_move w e = told (Move w) (ap (move_or_merge cmp spans bytes named hs curr next target) e)
+  pub told_move : (w : Window) → Some w ≡ longest_movable cmp spans named hs curr next → Told (Some (Move w))
+  told_move w e = told (Some (Move w)) (ap (move_or_merge cmp spans bytes named hs curr next target) e)
 
-  pub told_rest : (m : Option Merging) → None ≡ longest_movable cmp spans named hs curr next → m ≡ option_map (merging cmp spans curr next bytes) (cheapest_merge cmp spans bytes named hs curr next target) → Told (as_merge m)
+  pub told_rest : (m : Option Merging) → None ≡ longest_movable cmp spans named hs curr next → m ≡ option_map (merging cmp spans curr next bytes) (cheapest_merge cmp spans bytes named hs curr next target) → Told (option_map Merge m)
   told_rest m e f =
-      told (as_merge m) (ap as_merge f ∙ same_merge (cheapest_merge cmp spans bytes named hs curr next target) ∙ ap (move_or_merge cmp spans bytes named hs curr next target) e)
+      told (option_map Merge m) (ap (option_map Merge) f ∙ same_merge (cheapest_merge cmp spans bytes named hs curr next target) ∙ ap (move_or_merge cmp spans bytes named hs curr next target) e)

@@ -5,8 +5,7 @@ use Rattle.std.proofs.lemmas.List.{length-take, length-drop}
 use Rattle.std.proofs.lemmas.Bool.{cases_Bool, and_parts, and_cases, or_cases, or_parts, eqb-true, eqb-false, ltb-true, ltb-false}
 use Rattle.keys.specs.declared.key_range.KeyRange.{KeyRange}
 use Rattle.keys.specs.KeyKind.{Laws}
-use Rattle.runs.specs.declared.search.End.TheVariants.{Min}
-use Rattle.runs.specs.declared.search.Reach.TheVariants.{Before}
+use Rattle.runs.specs.Search.{Min, Before}
 use Rattle.windows.specs.declared.slice_windows.Window.{Window}
 use Rattle.runs.specs.Run.{sorted}
 use Rattle.windows.specs.SliceWindows.{win, tables_of, growing, Within, Shorter}

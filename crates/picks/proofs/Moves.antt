@@ -1,29 +1,18 @@
 -- One pass over a run finds the longest movable window.
-use Rattle.std.proofs.Common.{◌≡◌, ℕ, zero, suc, ◌+◌, ◌-◌, ◌<◌, ◌≤◌, Bool, true, false, cond, ◌&&◌, eqb, ◌⊎◌, List, length, Some, None, count_by, Option, Ordering, sym, refl, ap, ◌∙◌, subst, inl, inr, arith}
-use Rattle.std.proofs.lemmas.Bool.{cases_Bool, cases_lt, both_ways, and_parts, and_from, eqb-true, eq-eqb, ne_eqb}
+use Rattle.std.proofs.Common.{◌≡◌, ℕ, zero, suc, ◌+◌, ◌-◌, ◌<◌, ◌≤◌, Bool, true, ◌&&◌, eqb, ltb, ◌⊎◌, List, length, Some, None, count_by, Option, Ordering, sym, refl, ap, ◌∙◌, subst, inl, inr, arith}
+use Rattle.std.proofs.lemmas.Bool.{cases_Bool, cases_lt, both_ways, and_parts, and_from, eqb-true, eq-eqb, ltb-true, ltb-false}
 use Rattle.keys.specs.declared.key_range.KeyRange.{KeyRange}
-use Rattle.runs.specs.declared.search.End.TheVariants.{Min, Max}
-use Rattle.runs.specs.declared.search.Reach.TheVariants.{Before, UpTo}
+use Rattle.runs.specs.Search.{Min, Max, Before, UpTo}
 use Rattle.keys.specs.KeyKind.{Laws}
 use Rattle.runs.specs.Run.{sorted, span_of}
 use Rattle.windows.specs.declared.slice_windows.Window.{Window}
 use Rattle.windows.specs.SliceWindows.{win, tables_of, Within, Longer}
 use Rattle.picks.specs.Marks.{Marked}
-use Rattle.picks.specs.Movable.{meets_span, movable, longest_movable}
+use Rattle.picks.specs.Movable.{longer, meets_span, movable, longest_movable}
 use Rattle.picks.proofs.Bests.{IsBest, Best, best_unique, longest_best, longer_total}
 use Rattle.picks.proofs.Counts.{marked_at, marks_window, marked_mono}
 use Rattle.picks.specs.Edges.{place}
 use Rattle.picks.proofs.Places.{met_places, place_mono, place_before_upto}
-
--- a window of length 0 stands for none
-abbrev pub shown : Window → Option Window
-shown b = cond (eqb b.len 0) None (Some b)
-
-pub shown_none : (b : Window) → b.len ≡ 0 → None ≡ shown b
-shown_none b e = sym (ap (λ t. cond t None (Some b)) (eq-eqb b.len 0 e))
-
-pub shown_some : (b : Window) → (b.len ≡ 0 → ⊥) → Some b ≡ shown b
-shown_some b e = sym (ap (λ t. cond t None (Some b)) (ne_eqb b.len 0 e))
 
 -- the best of the windows that end up to i, and then up to i + 1
 module _ (ok : Window → Bool) where
@@ -33,66 +22,49 @@ module _ (ok : Window → Bool) where
   not_before : (i : ℕ) (w v : Window) → IsBest ok (λ v. 0) (Within i) Longer w → Within i v → ok v ≡ true → v.len ≤ w.len
   not_before i w v p r e = elim (cases_lt w.len v.len) [ inl l ↦ absurd (omega (arith, p.first v r e (inl l))) | inr l ↦ l ]
 
-  at_keep : (i : ℕ) (b : Window) (o : Option Window) → shown b ≡ o → BestUpTo i o → ((v : Window) → 0 < v.len → v.start + v.len ≡ i + 1 → ok v ≡ true → v.len ≤ b.len) → BestUpTo (i + 1) o
-  at_keep i b None e p f = λ v r. elim (cases_lt (v.start + v.len) (i + 1)) [
+  -- nothing that ends at i + 1 passes
+  pub none_more : (i : ℕ) (o : Option Window) → BestUpTo i o → ((v : Window) → 0 < v.len → v.start + v.len ≡ i + 1 → ok v ≡ true → ⊥) → BestUpTo (i + 1) o
+  none_more i None p f = λ v r. elim (cases_lt (v.start + v.len) (i + 1)) [
     | inl l ↦ p v (record { some = r.some; ends = omega arith })
-    | inr l ↦ elim (cases_Bool (ok v)) [
-      | inl y ↦
-          let s : v.len ≤ b.len = f v r.some (omega (arith, r.ends)) y in
-          elim (cases_Bool (eqb b.len 0)) [
-            | inl z ↦ absurd (omega (arith, eqb-true _ _ z, r.some))
-            | inr z ↦ absurd (let q : Some b ≡ None = sym (ap (λ t. cond t None (Some b)) z) ∙ e in let k : ◌≡◌ {A = ℕ} 0 1 = cc in omega arith)
-          ]
-      | inr y ↦ y
-    ]
+    | inr l ↦ elim (cases_Bool (ok v)) [ inl y ↦ absurd (f v r.some (omega (arith, r.ends)) y) | inr y ↦ y ]
   ]
-  at_keep i b (Some w) e p f =
-      let same : b ≡ w = elim (cases_Bool (eqb b.len 0)) [
-        | inl z ↦ absurd (let q : None ≡ Some w = sym (ap (λ t. cond t None (Some b)) z) ∙ e in let k : ◌≡◌ {A = ℕ} 0 1 = cc in omega arith)
-        | inr z ↦ let q : Some b ≡ Some w = sym (ap (λ t. cond t None (Some b)) z) ∙ e in cc
-      ] in
-      let lens = ap (λ (x : Window). x.len) same in
-      record {
-        here = record { some = p.here.some; ends = omega (arith, p.here.ends) };
-        passes = p.passes;
-        least = λ v r y. omega arith;
-        first = λ v r y l. absurd (elim (cases_lt (v.start + v.len) (i + 1)) [
-          | inl h ↦ omega (arith, p.first v (record { some = r.some; ends = omega arith }) y l)
-          | inr h ↦
-              let s : v.len ≤ b.len = f v r.some (omega (arith, r.ends)) y in
-              elim l [ inl k ↦ omega (arith, lens) | inr k ↦ omega (arith, p.here.ends, k.0, k.1) ]
-        ]);
-      }
+  none_more i (Some w) p f = record {
+    here = record { some = p.here.some; ends = omega (arith, p.here.ends) };
+    passes = p.passes;
+    least = λ v r y. omega arith;
+    first = λ v r y l. elim (cases_lt (v.start + v.len) (i + 1)) [ inl h ↦ p.first v (record { some = r.some; ends = omega arith }) y l | inr h ↦ absurd (f v r.some (omega (arith, r.ends)) y) ];
+  }
 
-  pub keep : (i : ℕ) (b : Window) → BestUpTo i (shown b) → ((v : Window) → 0 < v.len → v.start + v.len ≡ i + 1 → ok v ≡ true → v.len ≤ b.len) → BestUpTo (i + 1) (shown b)
-  keep i b p f = at_keep i b (shown b) refl p f
+  -- the longest that ends at i + 1 is a window from a place on
+  module _ (i from len : ℕ) (e : from + len ≡ i + 1) (z : 0 < len) (passes : ok (win from len) ≡ true) (f : (v : Window) → 0 < v.len → v.start + v.len ≡ i + 1 → ok v ≡ true → from ≤ v.start) where
+    new_best : ((v : Window) → Within i v → ok v ≡ true → v.len < len) → IsBest ok (λ v. 0) (Within (i + 1)) Longer (win from len)
+    new_best old = record {
+      here = record { some = omega arith; ends = omega arith };
+      passes = passes;
+      least = λ v r q. omega arith;
+      first = λ v r q l. absurd (elim (cases_lt (v.start + v.len) (i + 1)) [
+        | inl k ↦ let s = old v (record { some = r.some; ends = omega arith }) q in elim l [ inl m ↦ omega arith | inr m ↦ omega (arith, m.0) ]
+        | inr k ↦ let s : from ≤ v.start = f v r.some (omega (arith, r.ends)) q in elim l [ inl m ↦ omega (arith, r.ends) | inr m ↦ omega (arith, m.1) ]
+      ]);
+    }
 
-  at_long : (i : ℕ) (b v : Window) (o : Option Window) → shown b ≡ o → BestUpTo i o → Within i v → ok v ≡ true → v.len ≤ b.len
-  at_long i b v None e p r y = absurd (both_ways _ (p v r) y)
-  at_long i b v (Some w) e p r y =
-      let same : b ≡ w = elim (cases_Bool (eqb b.len 0)) [
-        | inl z ↦ absurd (let q : None ≡ Some w = sym (ap (λ t. cond t None (Some b)) z) ∙ e in let k : ◌≡◌ {A = ℕ} 0 1 = cc in omega arith)
-        | inr z ↦ let q : Some b ≡ Some w = sym (ap (λ t. cond t None (Some b)) z) ∙ e in cc
-      ] in
-      omega (arith, not_before i w v p r y, ap (λ (x : Window). x.len) same)
+    old_best : (b : Window) → IsBest ok (λ v. 0) (Within i) Longer b → len ≤ b.len → IsBest ok (λ v. 0) (Within (i + 1)) Longer b
+    old_best b p h = record {
+      here = record { some = p.here.some; ends = omega (arith, p.here.ends) };
+      passes = p.passes;
+      least = λ v r y. omega arith;
+      first = λ v r y l. absurd (elim (cases_lt (v.start + v.len) (i + 1)) [
+        | inl k ↦ omega (arith, p.first v (record { some = r.some; ends = omega arith }) y l)
+        | inr k ↦ let s : from ≤ v.start = f v r.some (omega (arith, r.ends)) y in elim l [ inl m ↦ omega (arith, r.ends) | inr m ↦ omega (arith, p.here.ends, r.ends, m.0, m.1) ]
+      ]);
+    }
 
-  pub take_new : (i : ℕ) (b : Window) → BestUpTo i (shown b) → (from len : ℕ) → from + len ≡ i + 1 → ok (win from len) ≡ true → b.len < len
-      → ((v : Window) → 0 < v.len → v.start + v.len ≡ i + 1 → ok v ≡ true → from ≤ v.start) → BestUpTo (i + 1) (shown (win from len))
-  take_new i b p from len e y h f =
-      let z : eqb len 0 ≡ false = ne_eqb _ _ (λ q. omega arith) in
-      rw z (record {
-        here = record { some = omega arith; ends = omega arith };
-        passes = y;
-        least = λ v r q. omega arith;
-        first = λ v r q l. absurd (elim (cases_lt (v.start + v.len) (i + 1)) [
-          | inl k ↦
-              let s = at_long i b v (shown b) refl p (record { some = r.some; ends = omega arith }) q in
-              elim l [ inl m ↦ omega arith | inr m ↦ omega (arith, m.0) ]
-          | inr k ↦
-              let s : from ≤ v.start = f v r.some (omega (arith, r.ends)) q in
-              elim l [ inl m ↦ omega (arith, r.ends) | inr m ↦ omega (arith, m.1) ]
-        ]);
-      })
+    pub longer_more : (o : Option Window) → BestUpTo i o → BestUpTo (i + 1) (longer o (win from len))
+    longer_more None p = new_best (λ v r y. absurd (both_ways _ (p v r) y))
+    longer_more (Some b) p = elim (cases_Bool (ltb b.len len)) [
+      | inl c ↦ rw c (new_best (λ v r y. omega (arith, not_before i b v p r y, ltb-true _ _ c)))
+      | inr c ↦ rw c (old_best b p (ltb-false _ _ c))
+    ]
 
 -- the windows that end at i: movable are those that start at `from` or behind it
 module _ (H A B : ℕ → ℕ) where
@@ -105,9 +77,6 @@ module _ (H A B : ℕ → ℕ) where
     pub stops : (s l : ℕ) → l + 1 ≡ i → s < from → s ≤ l → Mv s l → ⊥
     pub is_gap : from < i → gap ≡ A from
     pub under : gap ≤ A i
-
-  pub stretch_none : Stretch 0 0 0
-  stretch_none = record { low = omega arith; runs = λ s l e. absurd (omega arith); stops = λ s l e. absurd (omega arith); is_gap = λ h. absurd (omega arith); under = omega arith }
 
   module _ (H_mono : (i j : ℕ) → i ≤ j → H i ≤ H j) (A_mono : (i j : ℕ) → i ≤ j → A i ≤ A j) (B_mono : (i j : ℕ) → i ≤ j → B i ≤ B j) (i from gap : ℕ) (p : Stretch i from gap) (A_B : (k : ℕ) → k ≤ i → A k ≤ B k) where
     pub stretch_blocked : (H i < H (i + 1)) ⊎ (A i < B i) → Stretch (i + 1) (i + 1) gap
@@ -251,25 +220,25 @@ module _ {K T : Type 0} {cmp : K → K → Ordering} (laws : Laws cmp) (spans : 
         movable_is s n l (omega arith) h ∙ and_from _ _ (eq-eqb _ _ a) (eq-eqb _ _ b)
 
     -- the best so far, one table further
-    module _ (i : ℕ) (h : i < length curr) (from gap : ℕ) (p : Now (i + 1) from gap) (b : Window) (q : BestUpTo ok i (shown b)) where
+    module _ (i : ℕ) (h : i < length curr) (from gap : ℕ) (p : Now (i + 1) from gap) (o : Option Window) (q : BestUpTo ok i o) where
       starts : (v : Window) → 0 < v.len → v.start + v.len ≡ i + 1 → ok v ≡ true → from ≤ v.start
       starts v z e y = elim (cases_lt v.start from) [
         | inl l ↦ absurd (p.stops v.start i refl l (omega arith) (at_gives v.start v.len i z (sym e) h y))
         | inr l ↦ l
       ]
 
-      pub turn_keeps : i + 1 - from ≤ b.len → BestUpTo ok (i + 1) (shown b)
-      turn_keeps l = keep ok i b q (λ v z e y. omega (arith, starts v z e y))
+      pub turn_keeps : from ≡ i + 1 → BestUpTo ok (i + 1) o
+      turn_keeps l = none_more ok i o q (λ v z e y. omega (arith, starts v z e y))
 
-      pub turn_takes : from ≤ i → b.len < i + 1 - from → BestUpTo ok (i + 1) (shown (win from (i + 1 - from)))
-      turn_takes f l =
-          take_new ok i b q from (i + 1 - from) (omega arith)
-          (movable_from from (i + 1 - from) i (omega arith) (omega arith) h (p.runs from i refl (omega arith) f)) l starts
+      pub turn_takes : from ≤ i → BestUpTo ok (i + 1) (longer o (win from (i + 1 - from)))
+      turn_takes f =
+          longer_more ok i from (i + 1 - from) (omega arith) (omega arith)
+          (movable_from from (i + 1 - from) i (omega arith) (omega arith) h (p.runs from i refl (omega arith) f)) starts o q
 
 -- what the whole pass has found
-pub found_all : {K T : Type 0} (cmp : K → K → Ordering) (spans : T → KeyRange K) (named : T → ℕ) (hs : List ℕ) (curr next : List T) (i : ℕ) (b : Window) → i ≡ length curr
-    → BestUpTo (movable cmp spans named hs curr next) i (shown b) → shown b ≡ longest_movable cmp spans named hs curr next
-found_all cmp spans named hs curr next i b e p =
+pub found_all : {K T : Type 0} (cmp : K → K → Ordering) (spans : T → KeyRange K) (named : T → ℕ) (hs : List ℕ) (curr next : List T) (i : ℕ) (o : Option Window) → i ≡ length curr
+    → BestUpTo (movable cmp spans named hs curr next) i o → o ≡ longest_movable cmp spans named hs curr next
+found_all cmp spans named hs curr next i o e p =
     let ok = movable cmp spans named hs curr next in
-    best_unique ok (λ v. 0) (Within (length curr)) Longer longer_total (shown b) (longest_movable cmp spans named hs curr next)
-    (subst (λ (n : ℕ). BestUpTo ok n (shown b)) e p) (longest_best ok (length curr))
+    best_unique ok (λ v. 0) (Within (length curr)) Longer longer_total o (longest_movable cmp spans named hs curr next)
+    (subst (λ (n : ℕ). BestUpTo ok n o) e p) (longest_best ok (length curr))

@@ -4,14 +4,10 @@ use Rattle.std.specs.Ordering.{is_lt}
 use Rattle.std.proofs.lemmas.List.Sums.{count_by-le-length}
 use Rattle.std.proofs.lemmas.Bool.{and_parts, cases_Bool, both_ways, not-true, not_from_false}
 use Rattle.keys.specs.declared.key_range.KeyRange.{KeyRange}
-use Rattle.runs.specs.declared.search.End.{End}
-use Rattle.runs.specs.declared.search.End.TheVariants.{Min, Max}
-use Rattle.runs.specs.declared.search.Reach.{Reach}
-use Rattle.runs.specs.declared.search.Reach.TheVariants.{Before, UpTo}
 use Rattle.keys.specs.KeyKind.{Laws}
 use Rattle.keys.specs.KeyRange.{meets, inside}
 use Rattle.runs.specs.Run.{sorted, span_of}
-use Rattle.runs.specs.Search.{end_of, reaches, passed}
+use Rattle.runs.specs.Search.{End, Min, Max, Reach, Before, UpTo, end_of, reaches, passed}
 use Rattle.keys.proofs.Orders.{lt_chain, lt_le}
 use Rattle.runs.proofs.Falls.{kept_between}
 use Rattle.runs.proofs.Sorteds.{drop_read, end_behind, sorted_rest, sorted_falls}

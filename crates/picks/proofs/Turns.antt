@@ -4,8 +4,7 @@ use Rattle.std.proofs.lemmas.List.Sums.{sum_by-take-le}
 use Rattle.std.proofs.lemmas.Bool.{cases_lt}
 use Rattle.keys.specs.declared.key_range.KeyRange.{KeyRange}
 use Rattle.keys.specs.KeyKind.{Laws}
-use Rattle.runs.specs.declared.search.End.TheVariants.{Min, Max}
-use Rattle.runs.specs.declared.search.Reach.TheVariants.{Before, UpTo}
+use Rattle.runs.specs.Search.{Min, Max, Before, UpTo}
 use Rattle.runs.specs.Run.{sorted}
 use Rattle.picks.specs.declared.edges.Edge.{Edge}
 use Rattle.picks.specs.declared.fronts.Front.{Front}

@@ -3,11 +3,7 @@
 use Rattle.std.specs.Prelude.{◌≡◌, ℕ, zero, suc, ◌+◌, ◌-◌, ◌^◌, ◌<◌, ◌≤◌, Bool, cond, ◌&&◌, ◌||◌, ◌⊎◌, List, [], ◌∷◌, length, drop, Some, None, count_by, Option, ◌==◌, nat_le, nat_lt}
 use Rattle.std.specs.declared.cmp.Ordering.{Ordering}
 use Rattle.keys.specs.declared.key_range.KeyRange.{KeyRange}
-use Rattle.runs.specs.declared.search.End.{End}
-use Rattle.runs.specs.declared.search.End.TheVariants.{Min, Max}
-use Rattle.runs.specs.declared.search.Reach.{Reach}
-use Rattle.runs.specs.declared.search.Reach.TheVariants.{Before, UpTo}
-use Rattle.runs.specs.Search.{end_of, passed}
+use Rattle.runs.specs.Search.{End, Min, Max, Reach, Before, UpTo, end_of, passed}
 use Rattle.picks.specs.declared.edges.Edge.{Edge}
 use Rattle.picks.specs.declared.fronts.Front.{Front}
 use Rattle.picks.specs.declared.merge.Merging.{Merging}

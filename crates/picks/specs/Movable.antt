@@ -1,6 +1,6 @@
 -- The windows of a level that can move to the next one as they are. `cmp` is the order of the keys, `spans` and `named` a table's range and number,
 -- `hs` the hidden numbers, `curr` the level and `next` the one below it.
-use Rattle.std.specs.Prelude.{ℕ, Bool, false, cond, ◌&&◌, List, [], ◌∷◌, length, Some, None, count_by, Option, ◌==◌}
+use Rattle.std.specs.Prelude.{ℕ, Bool, false, cond, ◌&&◌, List, [], ◌∷◌, length, Some, None, count_by, Option, ◌==◌, nat_lt}
 use Rattle.std.specs.declared.cmp.Ordering.{Ordering}
 use Rattle.keys.specs.declared.key_range.KeyRange.{KeyRange}
 use Rattle.keys.specs.KeyRange.{meets}
@@ -13,6 +13,11 @@ use Rattle.picks.specs.Marks.{hidden_among}
 unfoldable pub first_of : {X : Type 0} → (X → Bool) → List X → Option X
 first_of ok [] = None
 first_of ok (x ∷ xs) = cond (ok x) (Some x) (first_of ok xs)
+
+-- of two windows the longer, the first among equals
+abbrev pub longer : Option Window → Window → Option Window
+longer None w = Some w
+longer (Some b) w = cond (nat_lt b.len w.len) (Some w) (Some b)
 
 module _ {K T : Type 0} (cmp : K → K → Ordering) (spans : T → KeyRange K) where
   -- a table meets a span, if there is one

@@ -1,12 +1,12 @@
 -- What a pick promises.
-use Rattle.std.specs.Prelude.{◌≡◌, ℕ, ◌+◌, ◌<◌, ◌≤◌, true, false, List, length, sum_by}
+use Rattle.std.specs.Prelude.{◌≡◌, ℕ, ◌+◌, ◌<◌, ◌≤◌, true, false, List, length, Some, None, Option, sum_by}
 use Rattle.std.specs.declared.cmp.Ordering.{Ordering}
 use Rattle.keys.specs.declared.key_range.KeyRange.{KeyRange}
 use Rattle.windows.specs.declared.slice_windows.Window.{Window}
 use Rattle.windows.specs.SliceWindows.{tables_of, Within, Shorter}
 use Rattle.picks.specs.declared.merge.Merging.{Merging}
-use Rattle.picks.specs.declared.pick.Picked.{Picked}
-use Rattle.picks.specs.declared.pick.Picked.TheVariants.{Move, Merge, Nothing}
+use Rattle.picks.specs.declared.pick.Pick.{Pick}
+use Rattle.picks.specs.declared.pick.Pick.TheVariants.{Move, Merge}
 use Rattle.picks.specs.Merge.{contained, begun_before, admissible}
 use Rattle.picks.specs.Movable.{movable}
 
@@ -48,7 +48,7 @@ module _ {K T : Type 0} (cmp : K → K → Ordering) (spans : T → KeyRange K) 
     pub bars : NoneAdmissible
 
   -- what each answer says
-  abbrev pub PickLaw : Picked → Type 0
-  PickLaw (Move w) = Moves w
-  PickLaw (Merge m) = Merges m
-  PickLaw Nothing = Rests
+  abbrev pub PickLaw : Option Pick → Type 0
+  PickLaw (Some (Move w)) = Moves w
+  PickLaw (Some (Merge m)) = Merges m
+  PickLaw None = Rests

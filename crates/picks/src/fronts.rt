@@ -1,12 +1,12 @@
 //! Fronts of a run, which grow to the right: what lies between two places is the difference of two fronts.
-ghost use Rattle.std.specs.Prelude.{◌≡◌, ◌^◌, ◌≤◌, length, sum_by};
+ghost use Rattle.std.specs.Prelude.{◌≡◌, ◌^◌, ◌≤◌, length, sum_by, count_by};
 ghost use Rattle.picks.specs.Fronts.{front};
 
-use crate::marks::Marks;
+use crate::marked_run::MarkedRun;
 use runs::ranged::TableFile;
 
 /// The first tables of a run: how many, the sum of their sizes, how many of them are hidden.
-#[derive(Clone, Copy)]
+#[derive(Clone, Copy, Default)]
 pub struct Front {
     pub at: usize,
     pub sum: u64,
@@ -15,25 +15,32 @@ pub struct Front {
 
 impl Front {
     /// The front of a run that reaches from here to a place behind.
-    pub fn advanced<T: TableFile>(self, run: &[T], marks: &Marks, to: usize) -> Front
-        requires small { sum_by T.bytes run.now ≤ 2 ^ 53 }
-        requires few { length run.now ≤ 1024 }
-        requires behind { (self.at ≤ to) × (to ≤ length run.now) }
-        requires here { self ≡ front T.bytes run.now marks.now.at self.at }
-        ensures { result ≡ front T.bytes run.now marks.now.at to }
+    pub fn advanced<T: TableFile>(self, level: &MarkedRun<'_, T>, to: usize) -> Front
+        requires behind { (self.at ≤ to) × (to ≤ length level.now.run.tables.now) }
+        requires here { self ≡ front T.bytes level.now.run.tables.now level.now.marks self.at }
+        ensures { result ≡ front T.bytes level.now.run.tables.now level.now.marks to }
     {
-        let mut sum = self.sum;
-        let mut count = self.hidden;
-        for i in self.at..to {
-            sum += run[i].file_size();
-            if marks.at[i] {
-                count += 1;
-            }
-        }
+        let bytes = size(&level.run.tables[self.at..to]);
+        let count = count_hidden(&level.marks[self.at..to]);
         Front {
             at: to,
-            sum,
-            hidden: count,
+            sum: self.sum + bytes,
+            hidden: self.hidden + count,
         }
     }
+}
+
+// The bytes of some tables.
+fn size<T: TableFile>(tables: &[T]) -> u64
+    requires { sum_by T.bytes tables.now ≤ 2 ^ 53 }
+    ensures { result ≡ sum_by T.bytes tables.now }
+{
+    tables.iter().map(|t| t.file_size()).sum()
+}
+
+// How many marks say that a table is hidden.
+fn count_hidden(marks: &[bool]) -> usize
+    ensures { result ≡ count_by (λ m. m) marks.now }
+{
+    marks.iter().filter(|m| **m).count()
 }

@@ -3,7 +3,7 @@
 
 mod edges;
 mod fronts;
-mod marks;
+mod marked_run;
 pub mod merge;
 mod movable;
 pub mod pick;

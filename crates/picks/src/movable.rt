@@ -1,42 +1,54 @@
 //! The longest window of a level that the next level meets nowhere.
-ghost use Rattle.std.specs.Prelude.{◌≡◌, ℕ, ◌≤◌, true, List, length};
-ghost use Rattle.runs.specs.Run.{sorted};
+ghost use Rattle.std.specs.Prelude.{◌≡◌, ℕ, List};
 ghost use Rattle.picks.specs.Marks.{Marked};
-ghost use Rattle.picks.specs.Movable.{longest_movable};
+ghost use Rattle.picks.specs.Movable.{longest_movable, longer};
 
-use crate::marks::Marks;
+use crate::marked_run::MarkedRun;
 use runs::ranged::TableFile;
-use runs::search::{End, Reach, partition_point};
+use runs::sorted_run::SortedRun;
 use windows::slice_windows::Window;
 
-/// The longest window without a hidden table whose span meets nothing of the next level, the leftmost among equals.
-/// The answer holds for the hidden numbers that the marks were made from.
-pub fn longest_movable<T: TableFile>(curr: &[T], next: &[T], marks: &Marks) -> Option<Window>
-    requires curr_sorted { sorted T.Key.ranks T.spans curr.now ≡ true }
-    requires next_sorted { sorted T.Key.ranks T.spans next.now ≡ true }
-    requires few { length curr.now ≤ 1024 }
-    ensures { (hs : List ℕ) → Marked T.named hs curr.now marks.now.at → result ≡ longest_movable T.Key.ranks T.spans T.named hs curr.now next.now }
-{
-    let mut from = 0;
-    let mut gap = 0;
-    let mut best = Window { start: 0, len: 0 };
-    for i in 0..curr.len() {
-        let range = curr[i].key_range();
-        let before = partition_point(next, End::Max, Reach::Before, &range.min);
-        let upto = partition_point(next, End::Min, Reach::UpTo, &range.max);
-        if gap < before {
-            // a table of the next level lies between the last one and this one
-            from = i;
-            gap = before;
+impl<'a, T: TableFile> MarkedRun<'a, T> {
+    /// The longest window without a hidden table whose span meets nothing of the next level, the leftmost among equals.
+    /// The answer holds for the hidden numbers that the marks were made from.
+    pub fn longest_movable(&self, next: &SortedRun<'_, T>) -> Option<Window>
+        ensures { (hs : List ℕ) → Marked T.named hs self.now.run.tables.now self.now.marks → result ≡ longest_movable T.Key.ranks T.spans T.named hs self.now.run.tables.now next.now.tables.now }
+    {
+        let mut from = 0;
+        let mut gap = 0;
+        let mut best: Option<Window> = None;
+        for (i, table) in self.run.tables.iter().enumerate() {
+            let range = table.key_range();
+            let before = next.ended_before(&range.min);
+            let upto = next.begun_by(&range.max);
+            if gap < before {
+                // a table of the next level lies between the last one and this one
+                from = i;
+                gap = before;
+            }
+            if self.marks[i] || before < upto {
+                from = i + 1;
+            } else {
+                let len = i + 1 - from;
+                best = longer(best, Window { start: from, len });
+            }
         }
-        if marks.at[i] || before < upto {
-            from = i + 1;
-        } else if best.len < i + 1 - from {
-            best = Window {
-                start: from,
-                len: i + 1 - from,
-            };
+        best
+    }
+}
+
+// The longer of the window that was found before and of one that starts behind it, the first among equals.
+fn longer(best: Option<Window>, found: Window) -> Option<Window>
+    ensures { result ≡ longer best found }
+{
+    match best {
+        None => Some(found),
+        Some(b) => {
+            if b.len < found.len {
+                Some(found)
+            } else {
+                Some(b)
+            }
         }
     }
-    if best.len == 0 { None } else { Some(best) }
 }

@@ -9,22 +9,21 @@ ghost use Rattle.sheets.specs.HiddenSet.{hidden};
 ghost use Rattle.picks.specs.Pick.{pick};
 ghost use Rattle.picks.specs.PickLaw.{PickLaw};
 
-use crate::marks::Marks;
-use crate::merge::{Merging, cheapest_merge};
-use crate::movable::longest_movable;
+use crate::edges::Levels;
+use crate::marked_run::MarkedRun;
+use crate::merge::Merging;
 use runs::ranged::TableFile;
+use runs::sorted_run::SortedRun;
 use sheets::hidden_set::HiddenSet;
 use windows::slice_windows::Window;
 
-/// What a pick answers.
+/// What is done with a level.
 #[derive(Clone, Copy)]
-pub enum Picked {
+pub enum Pick {
     /// The window of the level moves to the next one.
     Move(Window),
     /// A window of the next level is merged with the tables that it contains.
     Merge(Merging),
-    /// No window is movable or admissible.
-    Nothing,
 }
 
 /// The longest movable window, the leftmost among equals; else the admissible window with the fewest bytes, the first that is read among equals; else nothing.
@@ -34,7 +33,7 @@ pub fn pick_minimal_compaction<T: TableFile>(
     next: &[T],
     hidden_set: &HiddenSet,
     target_size: u64,
-) -> Picked
+) -> Option<Pick>
     requires curr_sorted { sorted T.Key.ranks T.spans curr.now ≡ true }
     requires next_sorted { sorted T.Key.ranks T.spans next.now ≡ true }
     requires curr_small { sum_by T.bytes curr.now ≤ 2 ^ 53 }
@@ -45,13 +44,12 @@ pub fn pick_minimal_compaction<T: TableFile>(
     ensures picks { result ≡ pick T.Key.ranks T.spans T.bytes T.named (hidden hidden_set.now) curr.now next.now target_size }
     ensures law { PickLaw T.Key.ranks T.spans T.bytes T.named (hidden hidden_set.now) curr.now next.now target_size result }
 {
-    let curr_marks = Marks::new(curr, hidden_set);
-    if let Some(window) = longest_movable(curr, next, &curr_marks) {
-        return Picked::Move(window);
+    let curr = MarkedRun::new(SortedRun { tables: curr }, hidden_set);
+    let next = SortedRun { tables: next };
+    if let Some(window) = curr.longest_movable(&next) {
+        return Some(Pick::Move(window));
     }
-    let next_marks = Marks::new(next, hidden_set);
-    match cheapest_merge(curr, next, &curr_marks, &next_marks, target_size) {
-        Some(merging) => Picked::Merge(merging),
-        None => Picked::Nothing,
-    }
+    let next = MarkedRun::new(next, hidden_set);
+    let merging = Levels { curr, next }.cheapest_merge(target_size)?;
+    Some(Pick::Merge(merging))
 }

@@ -1,16 +1,15 @@
-use Rattle.std.proofs.Common.{ap}
-use Rattle.sheets.specs.HiddenSet.{hidden}
-use Rattle.strategies.specs.Answer.{returned, written}
-use Rattle.leveled.proofs.Answered.{limits_kept, limits_broken, leveled_refused}
+use Rattle.std.proofs.Common.{ap, ◌∙◌}
+use Rattle.leveled.specs.Leveled.{leveled}
+use Rattle.leveled.specs.Survey.{standing, hides}
+use Rattle.leveled.proofs.Answered.{gives_by}
 use Rattle.leveled.proofs.strategy.LeveledCompactionStrategy.choose.Goals as goal
 
-pub choose_checked-requires : goal.choose_checked-requires
-choose_checked-requires g c = record { limits = limits_kept c.args.settings.now _ c.in-Ok.ensures; sound = c.requires.sound; few = c.requires.few; room = c.requires.room }
-
-pub returns-in-Ok : goal.returns-in-Ok
-returns-in-Ok g c = record { answer = c.choose_checked.ensures.returns; ids = c.choose_checked.ensures.writes }
-
-pub returns-in-Err : goal.returns-in-Err
-returns-in-Err g c =
-    let refused = leveled_refused g.K.KeyKind.ranks c.args.settings.now c.args.tables.now (hidden c.args.hidden_set.now) (limits_broken c.args.settings.now _ c.in-Err.ensures) in
-    record { answer = ap returned refused; ids = ap (λ x. written x c.args.ids.now) refused }
+pub returns : goal.returns
+returns g c =
+    let cmp = g.K.KeyKind.ranks in
+    let s = c.args.settings.now in
+    let v = c.new-survey.result in
+    let is = c.new-survey.ensures in
+    let gives =
+    gives_by _ _ (ap (λ r. leveled cmp r (standing v) (hides v)) is.settings ∙ ap (λ ts. leveled cmp s ts (hides v)) is.tables ∙ ap (leveled cmp s c.args.snapshot.now.tables.now) is.hidden) c.choose.ensures in
+    record { answer = gives.returns; ids = gives.writes }

@@ -1,24 +1,21 @@
-use Rattle.std.proofs.Common.{sym, ◌∙◌, arith}
-use Rattle.leveled.specs.Survey.{standing, hides}
-use Rattle.leveled.proofs.FirstLevels.{filled_yes, filled_no, first_at, first_past, first_last}
+use Rattle.std.proofs.Common.{◌∙◌, refl, rules, tests, arith}
+use Rattle.std.proofs.lemmas.Iterator.{YieldsList-from_range}
+use Rattle.std.proofs.lemmas.Iterator.Search.{find_from_yields_List}
+use Rattle.sheets.specs.Level.{filled}
+use Rattle.leveled.specs.Laws.{first_filled_range}
+use Rattle.leveled.specs.Survey.{set_to, standing, hides}
+use Rattle.leveled.proofs.FirstLevels.{first_found}
 use Rattle.leveled.proofs.survey.Survey.first_non_empty_level.Goals as goal
 
-pub returns-then-level-gt0 : goal.returns-then-level-gt0
-returns-then-level-gt0 g c =
+pub invariant_of-result : goal.invariant_of-result
+invariant_of-result g c =
     let v = c.args.self.now in
-    let ts = standing v in
-    let n = c.loop-n.n in
-    record {
-      value = sym (first_at ts n (omega arith) (filled_yes (hides v) ts n c.level.result c.level.ensures (omega arith))) ∙ c.loop-n.invariant;
-      within = (omega arith, omega arith);
-    }
-
-pub loop-n-preserved : goal.loop-n-preserved
-loop-n-preserved g c =
-    let v = c.args.self.now in
-    let ts = standing v in
-    let n = c.loop-n.n in
-    sym (first_past ts n (omega arith) (filled_no (hides v) ts n c.level.result c.level.ensures (omega arith))) ∙ c.loop-n.invariant
+    let within = first_filled_range (set_to v) (standing v) (hides v) in
+    let is =
+    c.unwrap_or-n.ensures ∙ first_found (standing v) c.find.result (find_from_yields_List (filled (standing v)) _ _ c.find.result c.find.ensures.ran (YieldsList-from_range 1 6 _ refl refl) (λ x b q k. search (rules, tests))) in
+    record { within = (omega (arith, is, within), omega (arith, is, within)) }
 
 pub returns : goal.returns
-returns g c = record { value = sym (first_last (standing c.args.self.now) c.loop-n.n (omega arith)) ∙ c.loop-n.invariant; within = (omega arith, omega arith) }
+returns g c =
+    let v = c.args.self.now in
+    c.unwrap_or-n.ensures ∙ first_found (standing v) c.find.result (find_from_yields_List (filled (standing v)) _ _ c.find.result c.find.ensures.ran (YieldsList-from_range 1 6 _ refl refl) (λ x b q k. search (rules, tests)))

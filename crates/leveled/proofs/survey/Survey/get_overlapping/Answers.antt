@@ -1,7 +1,7 @@
 use Rattle.std.proofs.Common.{ap, ◌∙◌}
 use Rattle.runs.specs.Run.{span_of}
 use Rattle.leveled.specs.Survey.{set_to, standing, hides}
-use Rattle.leveled.proofs.Overlapped.{meets_none, meets_cut}
+use Rattle.leveled.proofs.Overlapped.{meets_none, meets_span_of}
 use Rattle.leveled.proofs.survey.Survey.get_overlapping.Goals as goal
 
 pub returns-in_default : goal.returns-in_default
@@ -12,7 +12,5 @@ returns-in_default g c =
 pub returns : goal.returns
 returns g c =
     let v = c.args.self.now in
-    meets_cut g.K.KeyKind.ranks (set_to v) (standing v) (hides v) c.args.n g.met.K.KeyKind.total c.in-Some.span c.tables_of-run.result.now
-    c.partition_point-place.result c.partition_point-end.result c.max.result
-    (c.in-Some.ensures ∙ ap (span_of g.K.KeyKind.ranks (λ t. t.range)) c.tables_of.ensures.tables) c.tables_of-run.ensures.tables (c.tables_of-run.ensures.run c.requires.deeper)
-    c.partition_point-place.ensures.count c.partition_point-end.ensures.count c.max.ensures
+    meets_span_of g.K.KeyKind.ranks (set_to v) (standing v) (hides v) c.args.n c.in-Some.span c.tables_of-run.result.now _
+    (c.in-Some.ensures ∙ ap (span_of g.K.KeyKind.ranks (λ t. t.range)) c.tables_of.ensures.tables) c.tables_of-run.ensures.tables c.overlapping.ensures.tables

@@ -6,18 +6,18 @@ use Rattle.leveled.proofs.Surveys.{small_of}
 use Rattle.leveled.proofs.survey.Survey.merge_first.Goals as goal
 
 -- what is named: level 0, then what meets it
-pub input-input-requires : goal.input-input-requires
-input-input-requires g c =
+pub input-named-requires : goal.input-named-requires
+input-named-requires g c =
     let laws = g.met.K.KeyKind.total in
     let v = c.args.self.now in
     let ts = standing v in
-    let l = c.args.first in
+    let l = c.args.first.n in
     let xs = c.tables_of.result.now in
     let ys = c.get_overlapping-overlapping.result.now in
     let p = zero_and g.K.KeyKind.ranks (set_to v) ts (hides v) l in
-    let is = zero_named laws (set_to v) ts (hides v) c.requires.surveyed.sound l c.requires.within.0 xs ys c.tables_of.ensures.tables c.get_overlapping-overlapping.ensures in
+    let is = zero_named laws (set_to v) ts (hides v) c.args.self.now.sound l c.args.first.within.0 xs ys c.tables_of.ensures.tables c.get_overlapping-overlapping.ensures in
     record {
-      small = omega (arith, both_light p ts xs ys is, small_of laws ts c.requires.surveyed.sound);
+      small = omega (arith, both_light p ts xs ys is, small_of laws ts c.args.self.now.sound);
       room = omega (arith, both_few p ts xs ys is, c.requires.room);
     }
 
@@ -28,13 +28,13 @@ returns-then-overlapping-eq0 g c =
     let s = set_to v in
     let ts = standing v in
     let hs = hides v in
-    let l = c.args.first in
+    let l = c.args.first.n in
     let xs = c.tables_of.result.now in
     let ys = c.get_overlapping-overlapping.result.now in
-    let is = zero_named g.met.K.KeyKind.total s ts hs c.requires.surveyed.sound l c.requires.within.0 xs ys c.tables_of.ensures.tables c.get_overlapping-overlapping.ensures in
+    let is = zero_named g.met.K.KeyKind.total s ts hs c.args.self.now.sound l c.args.first.within.0 xs ys c.tables_of.ensures.tables c.get_overlapping-overlapping.ensures in
     let free = sym c.is_busy.ensures ∙ c.if-is_busy.false in
-    gives_by _ _ (won_move cmp s ts hs l free ys c.get_overlapping-overlapping.ensures (sym c.requires.surveyed.runs_are ∙ c.if-self-eq1.true) c.if-overlapping-eq0.true)
-    (moves (zero_and cmp s ts hs l) ts (xs ++ ys) is l 1 s.target_size c.input-input.result c.input-input.ensures.input c.args.ids.now c.input-input.new.ids c.input-input.ensures.ids)
+    gives_by _ _ (won_move cmp s ts hs l free ys c.get_overlapping-overlapping.ensures (sym c.args.self.now.runs_are ∙ c.if-self-eq1.true) c.if-overlapping-eq0.true)
+    (moves (zero_and cmp s ts hs l) ts (xs ++ ys) is l 1 s.target_size c.input-named.result c.input-named.ensures.input c.args.ids.now c.input-named.new.ids c.input-named.ensures.ids)
 
 pub returns-else-self-eq1 : goal.returns-else-self-eq1
 returns-else-self-eq1 g c =
@@ -43,14 +43,14 @@ returns-else-self-eq1 g c =
     let s = set_to v in
     let ts = standing v in
     let hs = hides v in
-    let l = c.args.first in
+    let l = c.args.first.n in
     let xs = c.tables_of.result.now in
     let ys = c.get_overlapping-overlapping.result.now in
     let met_is = c.get_overlapping-overlapping.ensures in
-    let is = zero_named g.met.K.KeyKind.total s ts hs c.requires.surveyed.sound l c.requires.within.0 xs ys c.tables_of.ensures.tables met_is in
+    let is = zero_named g.met.K.KeyKind.total s ts hs c.args.self.now.sound l c.args.first.within.0 xs ys c.tables_of.ensures.tables met_is in
     let free = sym c.is_busy.ensures ∙ c.if-is_busy.false in
-    let here = merges (zero_and cmp s ts hs l) ts (xs ++ ys) is l 1 s.target_size c.input-input.result c.input-input.ensures.input c.args.ids.now c.input-input.new.ids c.input-input.ensures.ids in
+    let here = merges (zero_and cmp s ts hs l) ts (xs ++ ys) is l 1 s.target_size c.input-named.result c.input-named.ensures.input c.args.ids.now c.input-named.new.ids c.input-named.ensures.ids in
     elim c.else-self-eq1.either [
       | inl h ↦ gives_by _ _ (won_met cmp s ts hs l free ys met_is h.1) here
-      | inr h ↦ gives_by _ _ (won_runs cmp s ts hs l free ys met_is (λ e. h (c.requires.surveyed.runs_are ∙ e))) here
+      | inr h ↦ gives_by _ _ (won_runs cmp s ts hs l free ys met_is (λ e. h (c.args.self.now.runs_are ∙ e))) here
     ]

@@ -10,26 +10,26 @@ pub overflow_cast-n : goal.overflow_cast-n
 overflow_cast-n g c =
     let v = c.args.self.now in
     let n = c.in-Some.n in
-    let wins : Some n ≡ chosen (scores (set_to v) (standing v) (hides v) c.args.first) = c.in-Some.ensures.value ∙ ap chosen c.scores-scores.ensures in
-    let low : n ≤ 5 = (wins_between (set_to v) (standing v) (hides v) c.args.first n (sym wins) c.if-n-eq0.false).1 in
+    let wins : Some n ≡ chosen (scores (set_to v) (standing v) (hides v) c.args.first.n) = c.in-Some.ensures.value ∙ ap chosen c.scores-scores.ensures in
+    let low : n ≤ 5 = (wins_between (set_to v) (standing v) (hides v) c.args.first.n n (sym wins) c.in-Some.n-test.1).1 in
     search rules
 
 pub compact-requires : goal.compact-requires
 compact-requires g c =
     let v = c.args.self.now in
     let n = c.in-Some.n in
-    let wins : Some n ≡ chosen (scores (set_to v) (standing v) (hides v) c.args.first) = c.in-Some.ensures.value ∙ ap chosen c.scores-scores.ensures in
-    let between = wins_between (set_to v) (standing v) (hides v) c.args.first n (sym wins) c.if-n-eq0.false in
-    record { surveyed = c.requires.surveyed; within = (c.requires.within.0, between.0, between.1); room = c.requires.room }
+    let wins : Some n ≡ chosen (scores (set_to v) (standing v) (hides v) c.args.first.n) = c.in-Some.ensures.value ∙ ap chosen c.scores-scores.ensures in
+    let between = wins_between (set_to v) (standing v) (hides v) c.args.first.n n (sym wins) c.in-Some.n-test.1 in
+    record { within = between; room = c.requires.room }
 
-pub returns-then-n-eq0 : goal.returns-then-n-eq0
-returns-then-n-eq0 g c =
+pub returns-in-Some-eq0 : goal.returns-in-Some-eq0
+returns-in-Some-eq0 g c =
+    let v = c.args.self.now in
+    let wins = c.in-Some-eq0.ensures.value ∙ ap chosen c.scores-scores.ensures in
+    gives_by _ _ (won_zero g.K.KeyKind.ranks (set_to v) (standing v) (hides v) c.args.first.n c.in-Some-eq0.field-0 wins c.in-Some-eq0.field-0-test) c.merge_first.ensures
+
+pub returns-in-Some : goal.returns-in-Some
+returns-in-Some g c =
     let v = c.args.self.now in
     let wins = c.in-Some.ensures.value ∙ ap chosen c.scores-scores.ensures in
-    gives_by _ _ (won_zero g.K.KeyKind.ranks (set_to v) (standing v) (hides v) c.args.first c.in-Some.n wins c.if-n-eq0.true) c.merge_first.ensures
-
-pub returns-else-n-eq0 : goal.returns-else-n-eq0
-returns-else-n-eq0 g c =
-    let v = c.args.self.now in
-    let wins = c.in-Some.ensures.value ∙ ap chosen c.scores-scores.ensures in
-    gives_by _ _ (won_deeper g.K.KeyKind.ranks (set_to v) (standing v) (hides v) c.args.first c.in-Some.n wins c.if-n-eq0.false) c.compact.ensures
+    gives_by _ _ (won_deeper g.K.KeyKind.ranks (set_to v) (standing v) (hides v) c.args.first.n c.in-Some.n wins c.in-Some.n-test.1) c.compact.ensures
