@@ -1,5 +1,6 @@
 -- On tables that are equal but for keys that compare alike, the test of a book comes out alike.
 use Rattle.std.proofs.Common.{◌≡◌, ℕ, Bool, not, ◌&&◌, eqb, leb, List, [], ◌∷◌, length, Option, Ordering, refl, ap, ◌∙◌}
+use Rattle.std.specs.List.{list_any, list_all}
 use Rattle.keys.specs.declared.key_range.KeyRange.{KeyRange}
 use Rattle.keys.specs.KeyRange.{meets}
 use Rattle.keys.specs.Pairing.{Both, nil, cons, CompareAlike}
@@ -9,7 +10,6 @@ use Rattle.runs.specs.Pairing.{Twin, TwinSpans, no_span, a_span}
 use Rattle.runs.proofs.Alike.{span_alike}
 use Rattle.picks.specs.Movable.{meets_span}
 use Rattle.sheets.specs.Level.{numbers_of}
-use Rattle.sheets.specs.Members.{some, all_by}
 use Rattle.sheets.specs.Sound.{distinct, sheet_ok}
 use Rattle.sheets.specs.Tables.{memb, named}
 use Rattle.sheets.proofs.Alike.{named_alike}
@@ -30,11 +30,11 @@ pairs_alike S p q f (cons {x} {y} s r) = rw (all_alike S (p x) (q y) (λ x' y' s
 
 -- ---- two tests that agree, on one list
 module _ {X : Type 0} where
-  pub some_same : (p q : X → Bool) (xs : List X) → ((x : X) → p x ≡ q x) → some p xs ≡ some q xs
+  pub some_same : (p q : X → Bool) (xs : List X) → ((x : X) → p x ≡ q x) → list_any p xs ≡ list_any q xs
   some_same p q [] f = refl
   some_same p q (x ∷ xs) f = rw (f x, some_same p q xs f)
 
-  all_same : (p q : X → Bool) (xs : List X) → ((x : X) → p x ≡ q x) → all_by p xs ≡ all_by q xs
+  all_same : (p q : X → Bool) (xs : List X) → ((x : X) → p x ≡ q x) → list_all p xs ≡ list_all q xs
   all_same p q [] f = refl
   all_same p q (x ∷ xs) f = rw (f x, all_same p q xs f)
 
@@ -64,7 +64,7 @@ module _ {A B : Type 0} (cmp_a : A → A → Ordering) (cmp_b : B → B → Orde
     clear_alike : (j : Running) (t : Table A) (u : Table B) → Twin R t u → is_clear cmp_a ts j t ≡ is_clear cmp_b us j u
     clear_alike j t u v = rw (meets_span_alike (span_held_alike j) t u v, v.level, v.number)
 
-    all_clear_alike : (j : Running) → all_by (is_clear cmp_a ts j) ts ≡ all_by (is_clear cmp_b us j) us
+    all_clear_alike : (j : Running) → list_all (is_clear cmp_a ts j) ts ≡ list_all (is_clear cmp_b us j) us
     all_clear_alike j = all_alike (Twin R) (is_clear cmp_a ts j) (is_clear cmp_b us j) (clear_alike j) w
 
     kind_alike : (j : Running) (k : Kind) → kind_ok cmp_a ts j k ≡ kind_ok cmp_b us j k
@@ -79,13 +79,13 @@ module _ {A B : Type 0} (cmp_a : A → A → Ordering) (cmp_b : B → B → Orde
     pub book_alike : (hidden : List ℕ) (jobs : List Running) → book_ok cmp_a ts hidden jobs ≡ book_ok cmp_b us hidden jobs
     book_alike hidden jobs =
         let few = leb (length hidden) 256 && leb (length jobs) 8 in
-        let stand = all_same (λ n. memb n (numbers_of ts) && some (λ j. memb n j.numbers) jobs) (λ n. memb n (numbers_of us) && some (λ j. memb n j.numbers) jobs) hidden
-        (λ n. ap (λ ns. memb n ns && some (λ j. memb n j.numbers) jobs) (numbers_alike R w)) in
-        let each = all_same (job_ok cmp_a ts hidden) (job_ok cmp_b us hidden) jobs (λ j. ap (λ b. leb 1 (length j.numbers) && (all_by (λ n. memb n hidden) j.numbers && b)) (kind_alike j j.kind)) in
-        let two = pairs_same (jobs_apart cmp_a ts) (jobs_apart cmp_b us) jobs (λ j k. ap (λ b. not (some (λ n. memb n k.numbers) j.numbers) && not b) (crosses_alike j k)) in
-        ap (λ b. few && (distinct hidden && (b && (all_by (job_ok cmp_a ts hidden) jobs && pairs_by (jobs_apart cmp_a ts) jobs)))) stand
-        ∙ ap (λ b. few && (distinct hidden && (all_by (λ n. memb n (numbers_of us) && some (λ j. memb n j.numbers) jobs) hidden && (b && pairs_by (jobs_apart cmp_a ts) jobs)))) each
-        ∙ ap (λ b. few && (distinct hidden && (all_by (λ n. memb n (numbers_of us) && some (λ j. memb n j.numbers) jobs) hidden && (all_by (job_ok cmp_b us hidden) jobs && b)))) two
+        let stand = all_same (λ n. memb n (numbers_of ts) && list_any (λ j. memb n j.numbers) jobs) (λ n. memb n (numbers_of us) && list_any (λ j. memb n j.numbers) jobs) hidden
+        (λ n. ap (λ ns. memb n ns && list_any (λ j. memb n j.numbers) jobs) (numbers_alike R w)) in
+        let each = all_same (job_ok cmp_a ts hidden) (job_ok cmp_b us hidden) jobs (λ j. ap (λ b. leb 1 (length j.numbers) && (list_all (λ n. memb n hidden) j.numbers && b)) (kind_alike j j.kind)) in
+        let two = pairs_same (jobs_apart cmp_a ts) (jobs_apart cmp_b us) jobs (λ j k. ap (λ b. not (list_any (λ n. memb n k.numbers) j.numbers) && not b) (crosses_alike j k)) in
+        ap (λ b. few && (distinct hidden && (b && (list_all (job_ok cmp_a ts hidden) jobs && pairs_by (jobs_apart cmp_a ts) jobs)))) stand
+        ∙ ap (λ b. few && (distinct hidden && (list_all (λ n. memb n (numbers_of us) && list_any (λ j. memb n j.numbers) jobs) hidden && (b && pairs_by (jobs_apart cmp_a ts) jobs)))) each
+        ∙ ap (λ b. few && (distinct hidden && (list_all (λ n. memb n (numbers_of us) && list_any (λ j. memb n j.numbers) jobs) hidden && (list_all (job_ok cmp_b us hidden) jobs && b)))) two
 
   -- ---- book and sheet
   pub state_alike : {s : State A} {t : State B} → TwinState R s t → state_ok cmp_a s ≡ state_ok cmp_b t

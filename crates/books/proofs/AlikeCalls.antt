@@ -1,12 +1,13 @@
 -- Two lists of calls that are equal but for keys that compare alike, on two states that are, give equal replies and leave states that are.
 use Rattle.std.proofs.Common.{◌≡◌, ℕ, ◌+◌, Bool, cond, ◌&&◌, eqb, ltb, leb, List, ◌∷◌, length, Err, Result, Ordering, sym, refl, ap, ◌∙◌, subst}
+use Rattle.std.specs.List.{list_any}
 use Rattle.refusals.specs.declared.refusal.Refusal.{Refusal}
 use Rattle.refusals.specs.declared.refusal.Refusal.TheVariants.{NotSound, AlreadyHidden}
 use Rattle.keys.specs.Pairing.{Both, nil, cons, CompareAlike}
 use Rattle.keys.proofs.Alike.{cond_alike}
 use Rattle.runs.specs.declared.table.Table.{Table}
 use Rattle.runs.specs.Pairing.{Twin}
-use Rattle.sheets.specs.Members.{In, some}
+use Rattle.sheets.specs.Members.{In}
 use Rattle.sheets.specs.Tables.{memb}
 use Rattle.sheets.proofs.AlikeLevels.{some_alike}
 use Rattle.strategies.specs.declared.choice.Choice.{Choice}
@@ -65,9 +66,9 @@ module _ {A B : Type 0} (cmp_a : A → A → Ordering) (cmp_b : B → B → Orde
         let hid : (t : Table A) (u : Table B) → Twin R t u → taken hidden c t ≡ taken hidden c u = λ t u v. ap (λ n. memb n ns && memb n hidden) v.number in
         cond_alike Q (ltb (length ids) (length ns)) (ltb (length ids') (length ns)) (ap (λ n. ltb n (length ns)) long) _ _ _ _ (twin w, refl, refl)
         (cond_alike Q (eqb (length ns) 0) _ refl _ _ _ _ (twin w, refl, refl)
-        (cond_alike Q (some (taken hidden c) ts) (some (taken hidden c) us) (some_alike (Twin R) (taken hidden c) (taken hidden c) hid w) _ _ _ _
+        (cond_alike Q (list_any (taken hidden c) ts) (list_any (taken hidden c) us) (some_alike (Twin R) (taken hidden c) (taken hidden c) hid w) _ _ _ _
         (twin w, ap (λ n. Err (AlreadyHidden n)) (place_alike (Twin R) (taken hidden c) (taken hidden c) hid w), refl)
-        (cond_alike Q (some (crosses cmp_a ts (job_of c)) (running slots)) (some (crosses cmp_b us (job_of c)) (running slots)) (some_same _ _ (running slots) (crosses_alike cmp_a cmp_b R alike w (job_of c))) _ _ _ _ (twin w, refl, refl)
+        (cond_alike Q (list_any (crosses cmp_a ts (job_of c)) (running slots)) (list_any (crosses cmp_b us (job_of c)) (running slots)) (some_same _ _ (running slots) (crosses_alike cmp_a cmp_b R alike w (job_of c))) _ _ _ _ (twin w, refl, refl)
         (cond_alike Q (ltb (length (running slots)) 8 && leb (length hidden + length ns) 256) _ refl _ _ _ _
         (twin w, refl, front_is c.kind c ids ∙ sym (front_is c.kind c ids'))
         (twin w, refl, refl)))))

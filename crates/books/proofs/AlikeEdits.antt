@@ -1,5 +1,6 @@
 -- On tables that are equal but for keys that compare alike, a landing and the end of a job leave alike and refuse alike.
 use Rattle.std.proofs.Common.{◌≡◌, ℕ, zero, suc, ◌-◌, Bool, cond, not, ◌||◌, List, [], ◌∷◌, map, Some, None, Option, Result, Ordering, refl, ap, ◌∙◌, subst}
+use Rattle.std.specs.List.{list_any}
 use Rattle.std.specs.Option.{option_map}
 use Rattle.refusals.specs.declared.refusal.Refusal.{Refusal}
 use Rattle.keys.specs.declared.key_range.KeyRange.{KeyRange}
@@ -9,8 +10,8 @@ use Rattle.runs.specs.declared.fresh.Fresh.{Fresh}
 use Rattle.runs.specs.declared.table.Table.{Table}
 use Rattle.runs.specs.Pairing.{Twin, Fellow, TwinSpans, no_span, a_span}
 use Rattle.sheets.specs.Level.{runs}
-use Rattle.sheets.specs.Members.{some}
-use Rattle.sheets.specs.Tables.{memb, named, placed, settled}
+use Rattle.runs.specs.Fresh.{settled}
+use Rattle.sheets.specs.Tables.{memb, named, placed}
 use Rattle.sheets.proofs.Alike.{named_alike, without_alike, placed_alike, settled_alike, insert_alike, inserts_alike}
 use Rattle.sheets.proofs.AlikeLevels.{some_alike, numbers_alike, size_alike, runs_alike}
 use Rattle.strategies.specs.declared.choice.Kind.{Kind}
@@ -77,8 +78,8 @@ module _ {A B : Type 0} (cmp_a : A → A → Ordering) (cmp_b : B → B → Orde
     pub landed_alike : (f : Fresh A) (g : Fresh B) → Fellow R f g → Both (Twin R) (landed cmp_a f ts) (landed cmp_b g us)
     landed_alike f g v =
         let n = runs_alike R w in
-        let e : some (bars cmp_a f (runs ts)) ts ≡ some (bars cmp_b g (runs us)) us = ap (λ k. some (bars cmp_a f k) ts) n ∙ some_alike (Twin R) (bars cmp_a f (runs us)) (bars cmp_b g (runs us)) (bars_alike f g v (runs us)) w in
-        let run : landing_run cmp_a f ts ≡ landing_run cmp_b g us = ap (λ b. cond b (runs ts) (runs ts - 1)) e ∙ ap (λ k. cond (some (bars cmp_b g (runs us)) us) k (k - 1)) n in
+        let e : list_any (bars cmp_a f (runs ts)) ts ≡ list_any (bars cmp_b g (runs us)) us = ap (λ k. list_any (bars cmp_a f k) ts) n ∙ some_alike (Twin R) (bars cmp_a f (runs us)) (bars cmp_b g (runs us)) (bars_alike f g v (runs us)) w in
+        let run : landing_run cmp_a f ts ≡ landing_run cmp_b g us = ap (λ b. cond b (runs ts) (runs ts - 1)) e ∙ ap (λ k. cond (list_any (bars cmp_b g (runs us)) us) k (k - 1)) n in
         insert_alike cmp_a cmp_b R alike (settled_alike R refl run f g v) w
 
     -- ---- a close

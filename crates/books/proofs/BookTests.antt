@@ -1,12 +1,13 @@
 -- The test of a book says that it is sound with its sheet, and the other way round.
 use Rattle.std.proofs.Common.{◌≡◌, ℕ, ◌≤◌, true, false, not, ◌&&◌, ◌||◌, eqb, leb, List, [], ◌∷◌, length, Decides, Ordering, sym, refl, ap, ◌∙◌, inl, inr, arith}
+use Rattle.std.specs.List.{list_any, list_all}
 use Rattle.std.proofs.lemmas.Bool.{true≢false, cases_Bool, both_ways, eq-eqb, eqb-true, eqb-false, le-leb, leb-true, and_parts, and_from, or_cases, or_left, or_right, not-true, not_from_false}
 use Rattle.keys.specs.KeyKind.{Laws}
 use Rattle.keys.specs.KeyRange.{meets}
 use Rattle.runs.specs.declared.table.Table.{Table}
 use Rattle.picks.specs.Movable.{meets_span}
 use Rattle.sheets.specs.Level.{numbers_of}
-use Rattle.sheets.specs.Members.{In, Every, Pairs, none, more, some, all_by}
+use Rattle.sheets.specs.Members.{In, Every, Pairs, none, more}
 use Rattle.sheets.specs.Sound.{Differ, distinct, sheet_ok}
 use Rattle.sheets.specs.Tables.{memb, named}
 use Rattle.sheets.proofs.Each.{some_in, in_some, none_some, kept_pairs, memb_in, in_memb, pairs_weaker, pairs_zip, pair_in, all_from, all_to, in_map, map_in}
@@ -51,12 +52,12 @@ going_from Move h e = let z : ◌≡◌ {A = ℕ} 0 1 = cc in omega arith
 going_from Merge h e = let z : ◌≡◌ {A = ℕ} 0 1 = cc in omega arith
 going_from Drop h e = true≢false (sym h)
 
-test_disjoint : (j k : Running) → Disjoint j k → some (λ n. memb n k.numbers) j.numbers ≡ false
+test_disjoint : (j k : Running) → Disjoint j k → list_any (λ n. memb n k.numbers) j.numbers ≡ false
 test_disjoint j k d =
-    elim (cases_Bool (some (λ n. memb n k.numbers) j.numbers))
+    elim (cases_Bool (list_any (λ n. memb n k.numbers) j.numbers))
     [ inr e ↦ e | inl e ↦ let w = some_in (λ n. memb n k.numbers) j.numbers e in absurd (d w.0 (in_memb w.0 j.numbers w.1) w.2) ]
 
-disjoint_test : (j k : Running) → some (λ n. memb n k.numbers) j.numbers ≡ false → Disjoint j k
+disjoint_test : (j k : Running) → list_any (λ n. memb n k.numbers) j.numbers ≡ false → Disjoint j k
 disjoint_test j k h n x y = both_ways _ (none_some (λ z. memb z k.numbers) j.numbers h n (memb_in n j.numbers x)) y
 
 module _ {K : Type 0} (cmp : K → K → Ordering) (ts : List (Table K)) where
@@ -106,7 +107,7 @@ module _ {K : Type 0} (cmp : K → K → Ordering) (ts : List (Table K)) where
   going_test j Move h f =
       let a = and_parts (leb 1 j.destination) _ h in
       let b = and_parts (leb j.destination 6) _ a.1 in
-      let c = and_parts (all_by (is_clear cmp ts j) ts) _ b.1 in
+      let c = and_parts (list_all (is_clear cmp ts j) ts) _ b.1 in
       record { destined = (leb-true _ _ a.0, leb-true _ _ b.0); clear = all_from (is_clear cmp ts j) ts c.0 }
   going_test j Merge h f =
       let a = and_parts (leb 1 j.destination) _ h in
@@ -118,7 +119,7 @@ module _ {K : Type 0} (cmp : K → K → Ordering) (ts : List (Table K)) where
   moves_test j Move h e =
       let a = and_parts (leb 1 j.destination) _ h in
       let b = and_parts (leb j.destination 6) _ a.1 in
-      let c = and_parts (all_by (is_clear cmp ts j) ts) _ b.1 in
+      let c = and_parts (list_all (is_clear cmp ts j) ts) _ b.1 in
       pairs_from (λ t u. not (meets cmp t.range u.range)) (held j ts) c.1
   moves_test j Merge h e = absurd (let z : ◌≡◌ {A = ℕ} 0 1 = cc in omega arith)
   moves_test j Drop h e = absurd (let z : ◌≡◌ {A = ℕ} 0 1 = cc in omega arith)
@@ -133,13 +134,13 @@ module _ {K : Type 0} (cmp : K → K → Ordering) (ts : List (Table K)) where
   booked_from_test hidden jobs h =
       let a = and_parts (leb (length hidden) 256 && leb (length jobs) 8) _ h in
       let b = and_parts (distinct hidden) _ a.1 in
-      let c = and_parts (all_by (λ n. memb n (numbers_of ts) && some (λ j. memb n j.numbers) jobs) hidden) _ b.1 in
-      let d = and_parts (all_by (job_ok cmp ts hidden) jobs) (pairs_by (jobs_apart cmp ts) jobs) c.1 in
+      let c = and_parts (list_all (λ n. memb n (numbers_of ts) && list_any (λ j. memb n j.numbers) jobs) hidden) _ b.1 in
+      let d = and_parts (list_all (job_ok cmp ts hidden) jobs) (pairs_by (jobs_apart cmp ts) jobs) c.1 in
       let few = and_parts (leb (length hidden) 256) (leb (length jobs) 8) a.0 in
-      let each : (n : ℕ) → In n hidden → (memb n (numbers_of ts) ≡ true) × (some (λ j. memb n j.numbers) jobs ≡ true) = λ n m. and_parts _ _ (all_from _ hidden c.0 n m) in
-      let job : (j : Running) → In j jobs → (leb 1 (length j.numbers) ≡ true) × (all_by (λ n. memb n hidden) j.numbers ≡ true) × (kind_ok cmp ts j j.kind ≡ true) =
+      let each : (n : ℕ) → In n hidden → (memb n (numbers_of ts) ≡ true) × (list_any (λ j. memb n j.numbers) jobs ≡ true) = λ n m. and_parts _ _ (all_from _ hidden c.0 n m) in
+      let job : (j : Running) → In j jobs → (leb 1 (length j.numbers) ≡ true) × (list_all (λ n. memb n hidden) j.numbers ≡ true) × (kind_ok cmp ts j j.kind ≡ true) =
       λ j m. let x = and_parts (leb 1 (length j.numbers)) _ (all_from (job_ok cmp ts hidden) jobs d.0 j m) in
-      let y = and_parts (all_by (λ n. memb n hidden) j.numbers) (kind_ok cmp ts j j.kind) x.1 in
+      let y = and_parts (list_all (λ n. memb n hidden) j.numbers) (kind_ok cmp ts j j.kind) x.1 in
       (x.0, y.0, y.1) in
       let two : Pairs (λ j k. jobs_apart cmp ts j k ≡ true) jobs = pairs_from (jobs_apart cmp ts) jobs d.1 in
       record {
@@ -148,17 +149,17 @@ module _ {K : Type 0} (cmp : K → K → Ordering) (ts : List (Table K)) where
         stands = λ n m. stands_from ts n (each n m).0;
         owned = λ n m. some_in (λ j. memb n j.numbers) jobs (each n m).1;
         hides = λ j m. all_from (λ n. memb n hidden) j.numbers (job j m).1;
-        disjoint = pairs_weaker _ Disjoint (λ j k _ _ e. disjoint_test j k (not-true _ (and_parts (not (some (λ n. memb n k.numbers) j.numbers)) _ e).0)) two;
+        disjoint = pairs_weaker _ Disjoint (λ j k _ _ e. disjoint_test j k (not-true _ (and_parts (not (list_any (λ n. memb n k.numbers) j.numbers)) _ e).0)) two;
         filled = λ j m. leb-true _ _ (job j m).0;
         destined = λ j m g. (going_test j j.kind (job j m).2 g).destined;
         clear = λ j m g u n. clear_test j u ((going_test j j.kind (job j m).2 g).clear u n);
-        lanes = pairs_weaker _ (Lanes cmp ts) (λ j k _ _ e. lanes_test j k (not-true _ (and_parts (not (some (λ n. memb n k.numbers) j.numbers)) (not (crosses cmp ts j k)) e).1)) two;
+        lanes = pairs_weaker _ (Lanes cmp ts) (λ j k _ _ e. lanes_test j k (not-true _ (and_parts (not (list_any (λ n. memb n k.numbers) j.numbers)) (not (crosses cmp ts j k)) e).1)) two;
         moves = λ j m e. unmet_test j (moves_test j j.kind (job j m).2 e);
       }
 
   -- ---- to the test
   module _ (hidden : List ℕ) (jobs : List Running) (numbers : Pairs Differ ts) (b : Booked cmp ts hidden jobs) where
-    all_clear : (j : Running) → In j jobs → Goes j.kind → all_by (is_clear cmp ts j) ts ≡ true
+    all_clear : (j : Running) → In j jobs → Goes j.kind → list_all (is_clear cmp ts j) ts ≡ true
     all_clear j m g = all_to (is_clear cmp ts j) ts (λ u n. test_clear j u (λ e x. b.clear j m g u n e x))
 
     kind_to : (j : Running) → In j jobs → (k : Kind) → j.kind ≡ k → kind_ok cmp ts j k ≡ true

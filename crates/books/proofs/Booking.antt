@@ -1,10 +1,11 @@
 -- A lawful booking keeps the book sound.
 use Rattle.std.proofs.Common.{◌≡◌, ℕ, ◌<◌, ◌≤◌, true, false, cond, ◌⊎◌, List, [], ◌∷◌, ◌++◌, length, Ordering, sym, refl, ap, ◌∙◌, inl, inr}
+use Rattle.std.specs.List.{list_any}
 use Rattle.std.proofs.lemmas.Bool.{true≢false, both_ways, and_cases, or_cases, or_left, or_right}
 use Rattle.keys.specs.KeyKind.{Laws}
 use Rattle.runs.specs.declared.table.Table.{Table}
 use Rattle.sheets.specs.HiddenSet.{hiding}
-use Rattle.sheets.specs.Members.{In, Every, Pairs, none, more, some}
+use Rattle.sheets.specs.Members.{In, Every, Pairs, none, more}
 use Rattle.sheets.specs.Tables.{memb, named}
 use Rattle.sheets.proofs.Each.{none_in, in_cases, none_some, memb_in, in_memb}
 use Rattle.sheets.proofs.Hiding.{memb_hiding}
@@ -41,7 +42,7 @@ hiding_once hs (n ∷ ns) ps =
     ] refl)
 
 -- a named table that stands is not hidden
-untaken : {K : Type 0} (ts : List (Table K)) (hs : List ℕ) (c : Chosen) → Every (Stands ts) c.numbers → some (taken hs c) ts ≡ false → (n : ℕ) → In n c.numbers → memb n hs ≡ false
+untaken : {K : Type 0} (ts : List (Table K)) (hs : List ℕ) (c : Chosen) → Every (Stands ts) c.numbers → list_any (taken hs c) ts ≡ false → (n : ℕ) → In n c.numbers → memb n hs ≡ false
 untaken ts hs c stands free n m =
     let w = stands n m in
     elim (and_cases (named c.numbers w.0) (named hs w.0) (none_some (taken hs c) ts free w.0 w.1)) [
@@ -51,7 +52,7 @@ untaken ts hs c stands free n m =
 
 module _ {K : Type 0} {cmp : K → K → Ordering} (laws : Laws cmp) {ts : List (Table K)} {hidden : List ℕ} {jobs jobs' : List Running} {c : Chosen}
     (b : Booked cmp ts hidden jobs) (o : Out (job_of c) jobs' jobs) (law : Lawful cmp ts c) (full : 0 < length c.numbers)
-    (free : some (taken hidden c) ts ≡ false) (clear : some (crosses cmp ts (job_of c)) jobs ≡ false) (few : length jobs' ≤ 8) (fits : length (hiding hidden c.numbers) ≤ 256) where
+    (free : list_any (taken hidden c) ts ≡ false) (clear : list_any (crosses cmp ts (job_of c)) jobs ≡ false) (few : length jobs' ≤ 8) (fits : length (hiding hidden c.numbers) ≤ 256) where
   abbrev all : List ℕ
   all = hiding hidden c.numbers
 

@@ -1,9 +1,10 @@
 -- The recount in one pass, on a sheet that ascends.
 use Rattle.std.proofs.Common.{◌≡◌, ℕ, zero, suc, ◌-◌, ◌<◌, ◌≤◌, Bool, cond, eqb, ltb, ◌⊎◌, List, ◌∷◌, map, Ordering, sym, refl, ap, ◌∙◌, inl, inr, arith}
+use Rattle.std.specs.List.{list_any}
 use Rattle.std.proofs.lemmas.Bool.{cases_Bool, cases_order, cases_lt, eq-eqb, ne_eqb, eqb-true, eqb-false, lt-ltb, le-ltb, cond-true, cond-false, and_from, and_left, and_right}
 use Rattle.keys.specs.KeyKind.{Laws}
 use Rattle.runs.specs.declared.table.Table.{Table}
-use Rattle.sheets.specs.Members.{In, here, later, Every, Pairs, none, more, some}
+use Rattle.sheets.specs.Members.{In, here, later, Every, Pairs, none, more}
 use Rattle.sheets.specs.Recount.{counted_run, counting}
 use Rattle.sheets.specs.Sound.{Occupied, Ordered}
 use Rattle.sheets.specs.Tables.{placed}
@@ -25,8 +26,8 @@ module _ {K : Type 0} (cmp : K → K → Ordering) (all : List (Table K)) where
       elim (cases_order f (suc r)) [
         | inl e ↦ rw e
         | inr o ↦ elim o [
-          | inl l ↦ cond-false (some (in_run r) all) (suc (rank all r)) (rank all r)
-              (elim (cases_Bool (some (in_run r) all)) [ inl s ↦ absurd (g r (omega arith) (omega arith) (some_occupied all r s)) | inr s ↦ s ])
+          | inl l ↦ cond-false (list_any (in_run r) all) (suc (rank all r)) (rank all r)
+              (elim (cases_Bool (list_any (in_run r) all)) [ inl s ↦ absurd (g r (omega arith) (omega arith) (some_occupied all r s)) | inr s ↦ s ])
               ∙ rank_flat f r (omega arith) (λ k i j. g k i (omega arith))
           | inr l ↦ absurd (omega arith)
         ]

@@ -1,10 +1,10 @@
 -- What a question leaves of the id sheet: the numbers that the returned choice names, over the front. So a reply tells it, and no call reads what the sheet held.
 use Rattle.std.proofs.Common.{◌≡◌, ℕ, ◌+◌, true, false, cond, ◌&&◌, eqb, ltb, leb, List, [], length, take, drop, Ok, Err, Ordering, sym, refl, ap}
+use Rattle.std.specs.List.{list_any}
 use Rattle.std.proofs.lemmas.List.{take_at}
 use Rattle.std.proofs.lemmas.Bool.{cond_both}
 use Rattle.refusals.specs.declared.refusal.Refusal.TheVariants.{IdsTooShort}
 use Rattle.sheets.specs.Edits.{laid}
-use Rattle.sheets.specs.Members.{some}
 use Rattle.strategies.specs.declared.choice.Choice.{Choice}
 use Rattle.strategies.specs.declared.choice.Kind.{Kind}
 use Rattle.strategies.specs.declared.choice.Kind.TheVariants.{Move, Merge, Drop}
@@ -70,8 +70,8 @@ module _ {K : Type 0} (cmp : K → K → Ordering) (g : Question K) (st : State 
       let P = Lies (λ (b : Booking). b.choice) in
       cond_both (ltb (length ids) (length c.numbers)) _ _ P (λ _. refl) (λ _.
       cond_both (eqb (length c.numbers) 0) _ _ P (λ _. refl) (λ _.
-      cond_both (some (taken st.hidden c) st.tables) _ _ P (λ _. refl) (λ _.
-      cond_both (some (crosses cmp st.tables (job_of c)) (running st.slots)) _ _ P (λ _. refl) (λ _.
+      cond_both (list_any (taken st.hidden c) st.tables) _ _ P (λ _. refl) (λ _.
+      cond_both (list_any (crosses cmp st.tables (job_of c)) (running st.slots)) _ _ P (λ _. refl) (λ _.
       cond_both (ltb (length (running st.slots)) 8 && leb (length st.hidden + length c.numbers) 256) _ _ P (λ _. ap (λ ns. laid ns ids) (sym (front_is c.kind c ids))) (λ _. refl)))))
 
   book_answer_ids : (a : Answer) → Lies (λ b. b.choice) (book_answer cmp a st ids)

@@ -1,14 +1,16 @@
 -- A landing keeps book and sheet sound.
 use Rattle.std.proofs.Common.{◌≡◌, ℕ, suc, ◌-◌, ◌^◌, ◌<◌, ◌≤◌, max, Bool, true, false, cond, eqb, ◌⊎◌, List, [], ◌∷◌, length, Ordering, sym, refl, ap, ◌∙◌, subst, inl, inr, arith}
+use Rattle.std.specs.List.{list_any}
 use Rattle.std.proofs.lemmas.Bool.{true≢false, cases_lt, cases_order, eq-eqb, eqb-true, eqb-false, and_cases}
 use Rattle.keys.specs.KeyKind.{Laws}
 use Rattle.keys.specs.KeyRange.{meets}
 use Rattle.runs.specs.declared.fresh.Fresh.{Fresh}
 use Rattle.runs.specs.declared.table.Table.{Table}
 use Rattle.sheets.specs.Level.{size_of, in_level, runs}
-use Rattle.sheets.specs.Members.{In, here, later, Every, Pairs, some}
+use Rattle.sheets.specs.Members.{In, here, later, Every, Pairs}
 use Rattle.sheets.specs.Sound.{Differ, Occupied, Counted, Proper, Sound}
-use Rattle.sheets.specs.Tables.{named, settled}
+use Rattle.runs.specs.Fresh.{settled}
+use Rattle.sheets.specs.Tables.{named}
 use Rattle.sheets.proofs.Ascends.{Ahead, by_level, by_run, ordered_ascends, apart_from, order_from}
 use Rattle.sheets.proofs.Each.{none_in, in_cases, none_some, memb_in}
 use Rattle.books.specs.Booked.{Booked}
@@ -51,10 +53,10 @@ module _ {K : Type 0} {cmp : K → K → Ordering} (laws : Laws cmp) {room stand
   arrived = settled 0 (landing_run cmp f ts) f
 
   run_le : landing_run cmp f ts ≤ runs ts
-  run_le = elim (some (bars cmp f (runs ts)) ts) as (λ b. cond b (runs ts) (runs ts - 1) ≤ runs ts) [ true ↦ omega arith | false ↦ omega arith ]
+  run_le = elim (list_any (bars cmp f (runs ts)) ts) as (λ b. cond b (runs ts) (runs ts - 1) ≤ runs ts) [ true ↦ omega arith | false ↦ omega arith ]
 
   -- a table of level 0 is of a run below, or does not meet what lands
-  beside_zero : (t : Table K) → In t ts → t.level ≡ 0 → (b : Bool) → some (bars cmp f (runs ts)) ts ≡ b → Beside cmp (settled 0 (cond b (runs ts) (runs ts - 1)) f) t
+  beside_zero : (t : Table K) → In t ts → t.level ≡ 0 → (b : Bool) → list_any (bars cmp f (runs ts)) ts ≡ b → Beside cmp (settled 0 (cond b (runs ts) (runs ts - 1)) f) t
   beside_zero t m e true h = inr (by_run e (runs_above ts t m e))
   beside_zero t m e false h =
       let l = runs_above ts t m e in
@@ -73,7 +75,7 @@ module _ {K : Type 0} {cmp : K → K → Ordering} (laws : Laws cmp) {room stand
   beside : Every (Beside cmp arrived) ts
   beside t m =
       elim (cases_order t.level 0) [
-        | inl e ↦ beside_zero t m e (some (bars cmp f (runs ts)) ts) refl
+        | inl e ↦ beside_zero t m e (list_any (bars cmp f (runs ts)) ts) refl
         | inr o ↦ elim o [ inl q ↦ absurd (omega arith) | inr q ↦ inl (by_level q) ]
       ]
 

@@ -2,7 +2,7 @@
 use Rattle.std.proofs.Common.{◌≡◌, ℕ, true, false, List, [], ◌∷◌, map, Some, None, Option, refl}
 use Rattle.refusals.specs.declared.refusal.Refusal.{Refusal}
 use Rattle.refusals.specs.declared.refusal.Refusal.TheVariants.{NotSound, NoSuchJob, BadTable, BadOutputs, Full, IdsTooShort, NamesNoTable, AlreadyHidden, SpanTaken}
-use Rattle.keys.specs.KeyKind.{by_number}
+use Rattle.std.specs.Ordering.{nat_cmp}
 use Rattle.runs.specs.declared.fresh.Fresh.{Fresh}
 use Rattle.runs.specs.declared.table.Table.{Table}
 use Rattle.strategies.specs.declared.choice.Kind.{Kind}
@@ -41,13 +41,13 @@ books kind destination numbers = booking (names_these kind destination numbers) 
 
 -- the refusals of a list of calls
 abbrev refused : List (Deed ℕ) → State ℕ → List (Option Refusal)
-refused ds st = map refusal_in (said by_number ds st)
+refused ds st = map refusal_in (said nat_cmp ds st)
 
 -- a at level 1, b and c at level 2, and d at level 1 too
 abbrev layout : State ℕ
 layout = opened 1024 4 (table 1 1 0 25 40 500 ∷ table 4 1 0 50 55 500 ∷ table 2 2 0 10 30 50 ∷ table 3 2 0 60 80 60 ∷ [])
 
-layout_sound : state_ok by_number layout ≡ true
+layout_sound : state_ok nat_cmp layout ≡ true
 layout_sound = refl
 
 -- the merge of a, b and c runs: a move of d to level 2 lies in its span
@@ -59,7 +59,7 @@ empty_merge : refused (booking (major 100) four ∷ []) (opened 1024 0 []) ≡ S
 empty_merge = refl
 
 -- the outputs of the closed merge stand in its tables' place
-merged : (after by_number (books Merge 2 (1 ∷ 2 ∷ 3 ∷ []) ∷ closing 1 (fresh 7 10 40 500 ∷ fresh 8 41 80 100 ∷ []) ∷ []) layout).tables ≡ table 4 1 0 50 55 500 ∷ table 7 2 0 10 40 500 ∷ table 8 2 0 41 80 100 ∷ []
+merged : (after nat_cmp (books Merge 2 (1 ∷ 2 ∷ 3 ∷ []) ∷ closing 1 (fresh 7 10 40 500 ∷ fresh 8 41 80 100 ∷ []) ∷ []) layout).tables ≡ table 4 1 0 50 55 500 ∷ table 7 2 0 10 40 500 ∷ table 8 2 0 41 80 100 ∷ []
 merged = refl
 
 -- outputs: the second begins before the first ends; the first is outside the span; the second has the first's number; one has the number of a table that stands; none; a ticket of no job; then given up, twice
@@ -79,7 +79,7 @@ bookings_refused = refl
 
 -- two landings that meet, and one that meets neither: two runs, and the last goes on; the first moves down, and the runs are counted anew
 moved :
-    (after by_number (landing (fresh 1 0 9 5) ∷ landing (fresh 2 5 20 5) ∷ landing (fresh 3 30 40 5) ∷ books Move 6 (1 ∷ []) ∷ closing 1 [] ∷ []) (opened 1024 0 [])).tables
+    (after nat_cmp (landing (fresh 1 0 9 5) ∷ landing (fresh 2 5 20 5) ∷ landing (fresh 3 30 40 5) ∷ books Move 6 (1 ∷ []) ∷ closing 1 [] ∷ []) (opened 1024 0 [])).tables
     ≡ table 2 0 0 5 20 5 ∷ table 3 0 0 30 40 5 ∷ table 1 6 0 0 9 5 ∷ []
 moved = refl
 
@@ -92,12 +92,12 @@ meeting : refused (asking (major 100) four ∷ giving 1 ∷ []) (opened 1024 2 (
 meeting = refl
 
 -- looking ahead leaves the hidden numbers as they were
-looked : (after by_number (books Drop 0 (4 ∷ []) ∷ looking (names_these Drop 0 (3 ∷ 4 ∷ [])) four ∷ []) layout).hidden ≡ 4 ∷ []
+looked : (after nat_cmp (books Drop 0 (4 ∷ []) ∷ looking (names_these Drop 0 (3 ∷ 4 ∷ [])) four ∷ []) layout).hidden ≡ 4 ∷ []
 looked = refl
 
 -- a table of a running job at two places: a book that no list of calls reaches
 shared :
-    state_ok by_number (record {
+    state_ok nat_cmp (record {
       room = 1024;
       standing = 1;
       blobs = 0;

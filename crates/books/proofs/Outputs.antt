@@ -12,7 +12,8 @@ use Rattle.runs.specs.declared.table.Table.{Table}
 use Rattle.sheets.specs.Level.{numbers_of}
 use Rattle.sheets.specs.Members.{In, here, later, Every, Pairs, none, more}
 use Rattle.sheets.specs.Sound.{Differ, Proper, Ordered}
-use Rattle.sheets.specs.Tables.{memb, named, placed, settled}
+use Rattle.runs.specs.Fresh.{settled}
+use Rattle.sheets.specs.Tables.{memb, named, placed}
 use Rattle.sheets.proofs.Ascends.{lt_not}
 use Rattle.sheets.proofs.Each.{none_in, in_cases, kept_pairs, map_in, in_memb}
 use Rattle.strategies.specs.declared.choice.Kind.{Kind}

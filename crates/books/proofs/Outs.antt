@@ -1,8 +1,9 @@
 -- Lists with one taken out or put in, what holds of each two of them, and the test of each two.
 use Rattle.std.proofs.Common.{◌≡◌, ℕ, suc, ◌+◌, Bool, true, ◌⊎◌, List, [], ◌∷◌, ◌++◌, map, length, sum_by, sym, refl, ap, subst, inl, inr, arith}
+use Rattle.std.specs.List.{list_all}
 use Rattle.std.proofs.lemmas.List.Sums.{sum_by-cons}
 use Rattle.std.proofs.lemmas.Bool.{and_parts, and_from}
-use Rattle.sheets.specs.Members.{In, here, later, Every, Pairs, none, more, all_by}
+use Rattle.sheets.specs.Members.{In, here, later, Every, Pairs, none, more}
 use Rattle.sheets.proofs.Each.{in_cases, in_map, all_from, all_to}
 use Rattle.books.specs.Booked.{pairs_by}
 
@@ -80,11 +81,11 @@ module _ {X : Type 0} where
   -- ---- the test of each two
   pub pairs_from : (r : X → X → Bool) (xs : List X) → pairs_by r xs ≡ true → Pairs (λ x y. r x y ≡ true) xs
   pairs_from r [] h = none
-  pairs_from r (y ∷ ys) h = let a = and_parts (all_by (r y) ys) (pairs_by r ys) h in more (all_from (r y) ys a.0) (pairs_from r ys a.1)
+  pairs_from r (y ∷ ys) h = let a = and_parts (list_all (r y) ys) (pairs_by r ys) h in more (all_from (r y) ys a.0) (pairs_from r ys a.1)
 
   pub pairs_to : (r : X → X → Bool) {xs : List X} → Pairs (λ x y. r x y ≡ true) xs → pairs_by r xs ≡ true
   pairs_to r none = refl
-  pairs_to r (more {x = y} {xs = ys} h ps) = and_from (all_by (r y) ys) (pairs_by r ys) (all_to (r y) ys h) (pairs_to r ps)
+  pairs_to r (more {x = y} {xs = ys} h ps) = and_from (list_all (r y) ys) (pairs_by r ys) (all_to (r y) ys h) (pairs_to r ps)
 
 -- ---- a map
 pub each_map : {X Y : Type 0} (f : X → Y) (P : Y → Type 0) (xs : List X) → ((x : X) → In x xs → P (f x)) → Every P (map f xs)

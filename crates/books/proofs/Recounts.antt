@@ -1,11 +1,12 @@
 -- Level 0's runs counted anew: the order stays, no gaps are left, and nothing else changes.
 use Rattle.std.proofs.Common.{◌≡◌, ℕ, zero, suc, ◌^◌, ◌<◌, ◌≤◌, Bool, true, false, cond, eqb, List, [], ◌∷◌, map, length, Ordering, sym, refl, ap, ◌∙◌, inl, inr, arith}
+use Rattle.std.specs.List.{list_any}
 use Rattle.std.proofs.lemmas.List.{length-map}
 use Rattle.std.proofs.lemmas.Bool.{true≢false, cases_Bool, eq-eqb, ne_eqb, eqb-true, cases_order, cond-true, cond-false, and_parts, and_from}
 use Rattle.keys.specs.KeyKind.{Laws}
 use Rattle.runs.specs.declared.table.Table.{Table}
 use Rattle.sheets.specs.Level.{size_of, in_level}
-use Rattle.sheets.specs.Members.{In, here, later, Every, Pairs, some}
+use Rattle.sheets.specs.Members.{In, here, later, Every, Pairs}
 use Rattle.sheets.specs.Sound.{Differ, Occupied, Counted, Proper, Ordered, Sound}
 use Rattle.sheets.specs.Tables.{placed}
 use Rattle.sheets.proofs.Ascends.{Ahead, by_level, by_run, by_key, ordered_ascends, apart_from, order_from}
@@ -19,18 +20,18 @@ again ts t = placed t.level (cond (in_level 0 t) (rank ts t.run) t.run) t
 
 module _ {K : Type 0} (ts : List (Table K)) where
   -- ---- which runs have a table
-  pub some_occupied : (r : ℕ) → some (in_run r) ts ≡ true → Occupied r ts
+  pub some_occupied : (r : ℕ) → list_any (in_run r) ts ≡ true → Occupied r ts
   some_occupied r h =
       let w = some_in (in_run r) ts h in
       let p = and_parts (in_level 0 w.0) (eqb w.0.run r) w.2 in
       (w.0, w.1, eqb-true _ _ p.0, eqb-true _ _ p.1)
 
-  pub occupied_some : (r : ℕ) → Occupied r ts → some (in_run r) ts ≡ true
+  pub occupied_some : (r : ℕ) → Occupied r ts → list_any (in_run r) ts ≡ true
   occupied_some r o = in_some (in_run r) ts o.0 o.1 (and_from _ _ (eq-eqb o.0.level 0 o.2) (eq-eqb o.0.run r o.3))
 
   -- ---- ranks rise
   rank_step : (r : ℕ) → rank ts r ≤ rank ts (suc r)
-  rank_step r = elim (some (in_run r) ts) as (λ b. rank ts r ≤ cond b (suc (rank ts r)) (rank ts r)) [ true ↦ omega arith | false ↦ omega arith ]
+  rank_step r = elim (list_any (in_run r) ts) as (λ b. rank ts r ≤ cond b (suc (rank ts r)) (rank ts r)) [ true ↦ omega arith | false ↦ omega arith ]
 
   rank_up : (r s : ℕ) → r ≤ s → rank ts r ≤ rank ts s
   rank_up r zero h = let e : r ≡ 0 = omega arith in rw e (omega arith)
@@ -41,7 +42,7 @@ module _ {K : Type 0} (ts : List (Table K)) where
       ]
 
   pub rank_next : (r : ℕ) → Occupied r ts → rank ts (suc r) ≡ suc (rank ts r)
-  rank_next r o = cond-true (some (in_run r) ts) (suc (rank ts r)) (rank ts r) (occupied_some r o)
+  rank_next r o = cond-true (list_any (in_run r) ts) (suc (rank ts r)) (rank ts r) (occupied_some r o)
 
   rank_less : (r s : ℕ) → Occupied r ts → r < s → rank ts r < rank ts s
   rank_less r s o h = omega (arith, rank_next r o, rank_up (suc r) s (omega arith))
@@ -50,7 +51,7 @@ module _ {K : Type 0} (ts : List (Table K)) where
   rank_gap : (r k : ℕ) → k < rank ts r → (s : ℕ) × Occupied s ts × (rank ts s ≡ k)
   rank_gap zero k h = absurd (omega arith)
   rank_gap (suc r) k h =
-      elim (some (in_run r) ts) as (λ b. some (in_run r) ts ≡ b → k < cond b (suc (rank ts r)) (rank ts r) → (s : ℕ) × Occupied s ts × (rank ts s ≡ k)) [
+      elim (list_any (in_run r) ts) as (λ b. list_any (in_run r) ts ≡ b → k < cond b (suc (rank ts r)) (rank ts r) → (s : ℕ) × Occupied s ts × (rank ts s ≡ k)) [
         | true ↦ λ e l. elim (cases_order k (rank ts r)) [
           | inl q ↦ (r, some_occupied r e, sym q)
           | inr o ↦ elim o [ inl q ↦ rank_gap r k q | inr q ↦ absurd (omega arith) ]

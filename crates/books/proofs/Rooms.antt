@@ -1,5 +1,6 @@
 -- Room for what a landing or a close leaves, told before anything is moved; and runs, of which there are no more than tables.
 use Rattle.std.proofs.Common.{◌≡◌, ℕ, suc, ◌+◌, ◌^◌, ◌<◌, ◌≤◌, max, true, ◌&&◌, eqb, leb, List, [], ◌∷◌, map, length, sum_by, filter, Ordering, sym, refl, ap, ◌∙◌, inl, inr, arith}
+use Rattle.std.specs.List.{list_all}
 use Rattle.std.proofs.lemmas.List.Filters.{sum_by-filter_both, length-filter_both}
 use Rattle.std.proofs.lemmas.List.{length-map}
 use Rattle.std.proofs.lemmas.Bool.{cases_Bool, eqb-true, le-leb, and_parts, and_from, cond-true, cond-false}
@@ -7,9 +8,10 @@ use Rattle.keys.specs.KeyKind.{Laws}
 use Rattle.runs.specs.declared.fresh.Fresh.{Fresh}
 use Rattle.runs.specs.declared.table.Table.{Table}
 use Rattle.sheets.specs.Level.{numbers_of, size_of, runs}
-use Rattle.sheets.specs.Members.{In, all_by}
+use Rattle.sheets.specs.Members.{In}
 use Rattle.sheets.specs.Sound.{Sound, distinct, counts_on, within_limits, in_order, tables_ok}
-use Rattle.sheets.specs.Tables.{named, unnamed, without, placed, settled, inserts}
+use Rattle.runs.specs.Fresh.{settled}
+use Rattle.sheets.specs.Tables.{named, unnamed, without, placed, inserts}
 use Rattle.sheets.proofs.Inserts.{length_insert, length_inserts}
 use Rattle.sheets.proofs.Soundness.{test_from_sound}
 use Rattle.strategies.specs.declared.choice.Kind.{Kind}
@@ -49,7 +51,7 @@ module _ {K : Type 0} {cmp : K → K → Ordering} (laws : Laws cmp) {room stand
       let a = and_parts (leb room 1024) _ (test_from_sound laws room standing blobs ts s) in
       let b = and_parts (leb standing room) _ a.1 in
       let c = and_parts (leb blobs (2 ^ 53)) (tables_ok cmp ts) b.1 in
-      let d = and_parts (all_by (within_limits cmp) ts) _ c.1 in
+      let d = and_parts (list_all (within_limits cmp) ts) _ c.1 in
       let e = and_parts (leb (size_of ts) (2 ^ 53)) _ d.1 in
       let f = and_parts (in_order cmp ts) _ e.1 in
       let g = and_parts (counts_on 0 ts) (distinct (numbers_of ts)) f.1 in

@@ -1,5 +1,6 @@
 -- Every call keeps book and sheet sound, and none but an unsound one answers that they are not.
 use Rattle.std.proofs.Common.{◌≡◌, ℕ, ◌+◌, ◌<◌, ◌&&◌, eqb, ltb, leb, List, [], length, Some, None, Err, Option, Result, Ordering, refl, ap, ◌∙◌, arith}
+use Rattle.std.specs.List.{list_any}
 use Rattle.std.specs.Result.{result_err}
 use Rattle.std.proofs.lemmas.Bool.{cond_both, and_parts, leb-true, ltb-true, eqb-false}
 use Rattle.refusals.specs.declared.refusal.Refusal.{Refusal}
@@ -7,7 +8,6 @@ use Rattle.refusals.specs.declared.refusal.Refusal.TheVariants.{NotSound, NoSuch
 use Rattle.refusals.specs.Refusal.{number_of}
 use Rattle.keys.specs.KeyKind.{Laws}
 use Rattle.runs.specs.declared.fresh.Fresh.{Fresh}
-use Rattle.sheets.specs.Members.{some}
 use Rattle.sheets.proofs.Hiding.{hiding_short}
 use Rattle.strategies.specs.declared.declined.Declined.{Declined}
 use Rattle.strategies.specs.declared.declined.Declined.TheVariants.{BadSetting, ManyRuns, HiddenTable}
@@ -143,8 +143,8 @@ module _ {K : Type 0} {cmp : K → K → Ordering} (laws : Laws cmp) (st : State
       let P = Leaves {R = Booking} in
       cond_both (ltb (length ids) (length c.numbers)) _ _ P (λ _. (s, unlike IdsTooShort (omega arith))) (λ _.
       cond_both (eqb (length c.numbers) 0) _ _ P (λ _. (s, unlike NamesNoTable (omega arith))) (λ full.
-      cond_both (some (taken st.hidden c) st.tables) _ _ P (λ _. (s, unlike (AlreadyHidden (place_of (taken st.hidden c) st.tables)) (omega arith))) (λ free.
-      cond_both (some (crosses cmp st.tables (job_of c)) (running st.slots)) _ _ P (λ _. (s, unlike SpanTaken (omega arith))) (λ clear.
+      cond_both (list_any (taken st.hidden c) st.tables) _ _ P (λ _. (s, unlike (AlreadyHidden (place_of (taken st.hidden c) st.tables)) (omega arith))) (λ free.
+      cond_both (list_any (crosses cmp st.tables (job_of c)) (running st.slots)) _ _ P (λ _. (s, unlike SpanTaken (omega arith))) (λ clear.
       cond_both (ltb (length (running st.slots)) 8 && leb (length st.hidden + length c.numbers) 256) _ _ P
       (λ fits.
       let p = and_parts (ltb (length (running st.slots)) 8) (leb (length st.hidden + length c.numbers) 256) fits in

@@ -1,12 +1,12 @@
 -- Asking a strategy, looking ahead, and booking what it chooses.
 use Rattle.std.specs.Prelude.{ℕ, ◌+◌, Bool, cond, ◌&&◌, List, length, Ok, Err, Result, ◌==◌, nat_le, nat_lt}
+use Rattle.std.specs.List.{list_any}
 use Rattle.std.specs.declared.cmp.Ordering.{Ordering}
 use Rattle.refusals.specs.declared.refusal.Refusal.{Refusal}
 use Rattle.refusals.specs.declared.refusal.Refusal.TheVariants.{IdsTooShort, NamesNoTable, AlreadyHidden, SpanTaken, BookFull}
 use Rattle.runs.specs.declared.table.Table.{Table}
 use Rattle.sheets.specs.Edits.{laid}
 use Rattle.sheets.specs.HiddenSet.{hiding}
-use Rattle.sheets.specs.Members.{some}
 use Rattle.sheets.specs.Tables.{named}
 use Rattle.strategies.specs.declared.choice.Choice.{Choice}
 use Rattle.strategies.specs.Answer.{Chosen, Answer, nothing, chooses, declines, refusal_of, as_choice, asked, noted}
@@ -71,8 +71,8 @@ module _ {K : Type 0} (cmp : K → K → Ordering) where
   book_choice c st ids =
       cond (nat_lt (length ids) (length c.numbers)) (refused st ids IdsTooShort)
       (cond (length c.numbers == 0) (refused st ids NamesNoTable)
-      (cond (some (taken st.hidden c) st.tables) (refused st ids (AlreadyHidden (place_of (taken st.hidden c) st.tables)))
-      (cond (some (crosses cmp st.tables (job_of c)) (running st.slots)) (refused st ids SpanTaken)
+      (cond (list_any (taken st.hidden c) st.tables) (refused st ids (AlreadyHidden (place_of (taken st.hidden c) st.tables)))
+      (cond (list_any (crosses cmp st.tables (job_of c)) (running st.slots)) (refused st ids SpanTaken)
       (cond (nat_lt (length (running st.slots)) 8 && nat_le (length st.hidden + length c.numbers) 256)
       (record {
         state = with_jobs st (hiding st.hidden c.numbers) (started (job_of c) st.slots);

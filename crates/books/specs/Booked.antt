@@ -1,5 +1,6 @@
 -- A book that is sound with its sheet: in words, and as a test.
 use Rattle.std.specs.Prelude.{◌≡◌, ℕ, ◌<◌, ◌≤◌, Bool, true, false, not, ◌&&◌, ◌||◌, List, [], ◌∷◌, length, Option, ◌==◌, ◌≢◌, nat_le}
+use Rattle.std.specs.List.{list_any, list_all}
 use Rattle.std.specs.declared.cmp.Ordering.{Ordering}
 use Rattle.keys.specs.KeyRange.{meets}
 use Rattle.keys.specs.declared.key_range.KeyRange.{KeyRange}
@@ -7,7 +8,7 @@ use Rattle.runs.specs.declared.table.Table.{Table}
 use Rattle.runs.specs.Run.{span_of}
 use Rattle.picks.specs.Movable.{meets_span}
 use Rattle.sheets.specs.Level.{numbers_of}
-use Rattle.sheets.specs.Members.{In, Every, Pairs, some, all_by}
+use Rattle.sheets.specs.Members.{In, Every, Pairs}
 use Rattle.sheets.specs.Sound.{Sound, Differ, distinct, sheet_ok}
 use Rattle.sheets.specs.Tables.{memb, named}
 use Rattle.strategies.specs.declared.choice.Kind.{Kind}
@@ -23,7 +24,7 @@ Disjoint j k = (n : ℕ) → memb n j.numbers ≡ true → memb n k.numbers ≢ 
 -- each stands so to all behind it, as a test
 abbrev pub pairs_by : {X : Type 0} → (X → X → Bool) → List X → Bool
 pairs_by r [] = true
-pairs_by r (x ∷ xs) = all_by (r x) xs && pairs_by r xs
+pairs_by r (x ∷ xs) = list_all (r x) xs && pairs_by r xs
 
 -- a move or a merge
 abbrev pub is_going : Kind → Bool
@@ -79,13 +80,13 @@ module _ {K : Type 0} (cmp : K → K → Ordering) where
 
   -- what a running job of a kind keeps
   abbrev pub kind_ok : List (Table K) → Running → Kind → Bool
-  kind_ok ts j Move = nat_le 1 j.destination && (nat_le j.destination 6 && (all_by (is_clear ts j) ts && pairs_by (λ t u. not (meets cmp t.range u.range)) (held j ts)))
-  kind_ok ts j Merge = nat_le 1 j.destination && (nat_le j.destination 6 && all_by (is_clear ts j) ts)
+  kind_ok ts j Move = nat_le 1 j.destination && (nat_le j.destination 6 && (list_all (is_clear ts j) ts && pairs_by (λ t u. not (meets cmp t.range u.range)) (held j ts)))
+  kind_ok ts j Merge = nat_le 1 j.destination && (nat_le j.destination 6 && list_all (is_clear ts j) ts)
   kind_ok ts j Drop = true
 
   -- it has a table, its tables are hidden, and it keeps what its kind asks
   abbrev pub job_ok : List (Table K) → List ℕ → Running → Bool
-  job_ok ts hidden j = nat_le 1 (length j.numbers) && (all_by (λ n. memb n hidden) j.numbers && kind_ok ts j j.kind)
+  job_ok ts hidden j = nat_le 1 (length j.numbers) && (list_all (λ n. memb n hidden) j.numbers && kind_ok ts j j.kind)
 
   -- the spans of two moves or merges to one level meet
   abbrev pub crosses : List (Table K) → Running → Running → Bool
@@ -93,14 +94,14 @@ module _ {K : Type 0} (cmp : K → K → Ordering) where
 
   -- two jobs have no table in common, and do not cross
   abbrev pub jobs_apart : List (Table K) → Running → Running → Bool
-  jobs_apart ts j k = not (some (λ n. memb n k.numbers) j.numbers) && not (crosses ts j k)
+  jobs_apart ts j k = not (list_any (λ n. memb n k.numbers) j.numbers) && not (crosses ts j k)
 
   abbrev pub book_ok : List (Table K) → List ℕ → List Running → Bool
   book_ok ts hidden jobs =
       (nat_le (length hidden) 256 && nat_le (length jobs) 8)
       && (distinct hidden
-      && (all_by (λ n. memb n (numbers_of ts) && some (λ j. memb n j.numbers) jobs) hidden
-      && (all_by (job_ok ts hidden) jobs && pairs_by (jobs_apart ts) jobs)))
+      && (list_all (λ n. memb n (numbers_of ts) && list_any (λ j. memb n j.numbers) jobs) hidden
+      && (list_all (job_ok ts hidden) jobs && pairs_by (jobs_apart ts) jobs)))
 
   -- the test of book and sheet
   abbrev pub state_ok : State K → Bool

@@ -1,5 +1,6 @@
 -- Ending a job: closing it with its outputs, or giving it up.
 use Rattle.std.specs.Prelude.{ℕ, zero, suc, Bool, true, false, cond, not, ◌&&◌, ◌||◌, List, [], ◌∷◌, map, length, Some, None, Ok, Err, filter, Option, Result, ◌==◌}
+use Rattle.std.specs.List.{list_any}
 use Rattle.std.specs.declared.cmp.Ordering.{Ordering}
 use Rattle.std.specs.Option.{option_map}
 use Rattle.std.specs.Ordering.{is_lt}
@@ -11,8 +12,8 @@ use Rattle.runs.specs.declared.fresh.Fresh.{Fresh}
 use Rattle.runs.specs.declared.table.Table.{Table}
 use Rattle.sheets.specs.HiddenSet.{showing}
 use Rattle.sheets.specs.Level.{in_level}
-use Rattle.sheets.specs.Members.{some}
-use Rattle.sheets.specs.Tables.{memb, named, without, placed, settled, inserts}
+use Rattle.runs.specs.Fresh.{settled}
+use Rattle.sheets.specs.Tables.{memb, named, without, placed, inserts}
 use Rattle.strategies.specs.declared.choice.Kind.{Kind}
 use Rattle.strategies.specs.declared.choice.Kind.TheVariants.{Move, Merge, Drop}
 use Rattle.books.specs.Booked.{span_held}
@@ -33,7 +34,7 @@ module _ {K : Type 0} where
   -- how many of the runs below this one have a table
   abbrev pub rank : List (Table K) → ℕ → ℕ
   rank ts zero = 0
-  rank ts (suc r) = cond (some (in_run r) ts) (suc (rank ts r)) (rank ts r)
+  rank ts (suc r) = cond (list_any (in_run r) ts) (suc (rank ts r)) (rank ts r)
 
   -- level 0's runs counted anew: a table's run is how many runs below its own have a table
   abbrev pub recounted : List (Table K) → List (Table K)

@@ -1,5 +1,6 @@
 -- Landing a table.
 use Rattle.std.specs.Prelude.{ℕ, suc, ◌-◌, ◌^◌, Bool, cond, not, ◌&&◌, List, length, Ok, Err, Result, ◌==◌, nat_le}
+use Rattle.std.specs.List.{list_any}
 use Rattle.std.specs.declared.cmp.Ordering.{Ordering}
 use Rattle.std.specs.Ordering.{is_lt}
 use Rattle.refusals.specs.declared.refusal.Refusal.{Refusal}
@@ -8,8 +9,8 @@ use Rattle.keys.specs.KeyRange.{meets}
 use Rattle.runs.specs.declared.fresh.Fresh.{Fresh}
 use Rattle.runs.specs.declared.table.Table.{Table}
 use Rattle.sheets.specs.Level.{numbers_of, size_of, in_level, runs}
-use Rattle.sheets.specs.Members.{some}
-use Rattle.sheets.specs.Tables.{memb, settled, insert}
+use Rattle.runs.specs.Fresh.{settled}
+use Rattle.sheets.specs.Tables.{memb, insert}
 use Rattle.books.specs.State.{State, with_tables}
 
 -- the sheet has places for the tables, and their sizes together are at most 2^53
@@ -27,7 +28,7 @@ module _ {K : Type 0} (cmp : K → K → Ordering) where
 
   -- level 0's last run if the table meets nothing there, else a new one behind it; run 0 on an empty level 0
   abbrev pub landing_run : Fresh K → List (Table K) → ℕ
-  landing_run f ts = cond (some (bars f (runs ts)) ts) (runs ts) (runs ts - 1)
+  landing_run f ts = cond (list_any (bars f (runs ts)) ts) (runs ts) (runs ts - 1)
 
   -- the tables with the fresh one landed
   abbrev pub landed : Fresh K → List (Table K) → List (Table K)

@@ -4,13 +4,14 @@ ghost use Rattle.standard.specs.StandardLaws.{standard_lawful};
 
 use keys::bounds::OwnedBounds;
 use keys::key_kind::KeyKind;
+use leveled::strategy::Leveled;
 use levels::settings::Settings as LeveledSettings;
-use runs::table::Table;
-use sheets::hidden_set::HiddenSet;
 use strategies::choice::Choice;
 use strategies::declined::Declined;
-use strategies::fifo::FifoSettings;
-use strategies::major::MajorSettings;
+use strategies::drop_range::DropRange;
+use strategies::fifo::{Fifo, FifoSettings};
+use strategies::major::{Major, MajorSettings};
+use strategies::snapshot::Snapshot;
 use strategies::strategy::CompactionStrategy;
 
 /// The settings of one of the strategies.
@@ -35,33 +36,14 @@ impl<K: KeyKind> CompactionStrategy<K> for Standard {
 
     fn choose(
         settings: &Settings<K>,
-        tables: &[Table<K>],
-        hidden_set: &HiddenSet,
-        blob_total: u64,
-        clock: u64,
+        snapshot: &Snapshot<'_, K>,
         ids: &mut [u64],
     ) -> Result<Choice, Declined> {
         match settings {
-            Settings::Leveled(leveled) => {
-                <leveled::strategy::Leveled as CompactionStrategy<_>>::choose(
-                    leveled, tables, hidden_set, blob_total, clock, ids,
-                )
-            }
-            Settings::Fifo(fifo) => {
-                <strategies::fifo::Fifo as CompactionStrategy<_>>::choose(
-                    fifo, tables, hidden_set, blob_total, clock, ids,
-                )
-            }
-            Settings::Major(major) => {
-                <strategies::major::Major as CompactionStrategy<_>>::choose(
-                    major, tables, hidden_set, blob_total, clock, ids,
-                )
-            }
-            Settings::DropRange(bounds) => {
-                <strategies::drop_range::DropRange as CompactionStrategy<_>>::choose(
-                    bounds, tables, hidden_set, blob_total, clock, ids,
-                )
-            }
+            Settings::Leveled(leveled) => Leveled::choose(leveled, snapshot, ids),
+            Settings::Fifo(fifo) => Fifo::choose(fifo, snapshot, ids),
+            Settings::Major(major) => Major::choose(major, snapshot, ids),
+            Settings::DropRange(bounds) => DropRange::choose(bounds, snapshot, ids),
         }
     }
 }

@@ -1,37 +1,19 @@
 -- The question on a lent id sheet, from the answer into memory of its own.
-use Rattle.std.proofs.Common.{◌≡◌, ℕ, ◌^◌, ◌≤◌, true, cond, leb, List, length, take, drop, Ok, Err, Result, Ordering, sym, refl, ap, ◌∙◌, arith}
-use Rattle.std.proofs.lemmas.List.{take_at, length-append, length-drop, length-take-le}
-use Rattle.std.proofs.lemmas.Bool.{and_parts, leb-true, le-leb}
+use Rattle.std.proofs.Common.{◌≡◌, ℕ, true, cond, leb, List, length, take, drop, Ok, Err, Result, Ordering, sym, refl, ap, ◌∙◌, arith}
+use Rattle.std.proofs.lemmas.List.{take_at}
+use Rattle.std.proofs.lemmas.Bool.{le-leb}
 use Rattle.refusals.specs.declared.refusal.Refusal.{Refusal}
 use Rattle.refusals.specs.declared.refusal.Refusal.TheVariants.{NotSound, IdsTooShort}
 use Rattle.runs.specs.declared.table.Table.{Table}
 use Rattle.sheets.specs.Edits.{laid}
-use Rattle.sheets.specs.Sound.{tables_ok, sheet_ok}
+use Rattle.sheets.specs.Sound.{sheet_ok}
 use Rattle.strategies.specs.declared.choice.Choice.{Choice}
 use Rattle.strategies.specs.declared.choice.Choice.TheVariants as C
 use Rattle.strategies.specs.declared.choice.Kind.{Kind}
 use Rattle.strategies.specs.declared.choice.Kind.TheVariants.{Move, Merge, Drop}
 use Rattle.strategies.specs.declared.declined.Declined.{Declined}
-use Rattle.strategies.specs.Answer.{Chosen, Answer, nothing, chooses, declines, refusal_of, as_choice, returned, written, asked, noted}
+use Rattle.strategies.specs.Answer.{Chosen, Answer, nothing, chooses, declines, as_choice, returned, written, asked, noted}
 use Rattle.strategies.specs.Question.{count_in, proposed, ids_after}
-
--- ---- what the test of the sheet gives for the stretch that stands
-module _ {K : Type 0} (cmp : K → K → Ordering) (sheet : List (Table K)) (standing blobs : ℕ) (ok : sheet_ok cmp (length sheet) standing blobs (take standing sheet) ≡ true) (n : ℕ) (whole : n ≡ standing) where
-  abbrev parts : (leb (length sheet) 1024 ≡ true) × (leb standing (length sheet) ≡ true) × (leb blobs (2 ^ 53) ≡ true) × (tables_ok cmp (take standing sheet) ≡ true)
-  parts =
-      let a = and_parts (leb (length sheet) 1024) _ ok in
-      let b = and_parts (leb standing (length sheet)) _ a.1 in
-      let c = and_parts (leb blobs (2 ^ 53)) (tables_ok cmp (take standing sheet)) b.1 in
-      (a.0, b.0, c.0, c.1)
-
-  pub asked_sound : tables_ok cmp (take n sheet) ≡ true
-  asked_sound = ap (λ m. tables_ok cmp (take m sheet)) whole ∙ parts.3
-
-  pub asked_few : length (take n sheet) ≤ 1024
-  asked_few = omega (arith, whole, leb-true _ _ parts.0, leb-true _ _ parts.1, length-take-le n sheet (omega (arith, whole, leb-true _ _ parts.1)))
-
-  pub asked_blob : blobs ≤ 2 ^ 53
-  asked_blob = leb-true _ _ parts.2
 
 -- ---- from what was returned and written
 count_is : (k : Kind) (c : Chosen) → count_in (as_choice k c) ≡ length c.numbers
@@ -43,14 +25,6 @@ laid_front : (ns s : List ℕ) → take (length ns) (laid ns s) ≡ ns
 laid_front ns s = take_at ns (drop (length ns) s) (length ns) refl
 
 module _ (choice : Choice) where
-  -- all that is named is in the memory, which keeps its length
-  pub granted_fits : (room after : List ℕ) → length after ≡ length room → (a : Answer) → ◌≡◌ {A = Result Choice Declined} (Ok choice) (returned a) → after ≡ written a room → count_in choice ≤ length after
-  granted_fits room after kept nothing e w = let f : choice ≡ C.DoNothing = cc in omega (arith, ap count_in f)
-  granted_fits room after kept (chooses c) e w =
-      let f : choice ≡ as_choice c.kind c = cc in
-      omega (arith, ap count_in f, count_is c.kind c, ap length w, length-append c.numbers (drop (length c.numbers) room), length-drop (length c.numbers) room)
-  granted_fits room after kept (declines d) e w = absurd (let z : ◌≡◌ {A = ℕ} 0 1 = cc in omega arith)
-
   pub granted_answer : (a : Answer) → ◌≡◌ {A = Result Choice Declined} (Ok choice) (returned a) → (places : ℕ) → ◌≡◌ {A = Result Choice Refusal} (cond (leb (count_in choice) places) (Ok choice) (Err IdsTooShort)) (asked a places)
   granted_answer nothing e places = let f : choice ≡ C.DoNothing = cc in ap (λ x. cond (leb (count_in x) places) (Ok x) (Err IdsTooShort)) f ∙ ap (λ b. cond b (Ok C.DoNothing) (Err IdsTooShort)) (le-leb 0 places (omega arith))
   granted_answer (chooses c) e places =
@@ -69,17 +43,6 @@ module _ (choice : Choice) where
       ap (λ k. cond (leb k (length ids)) (laid (take k after) ids) ids) n
       ∙ ap (λ ns. cond (leb (length c.numbers) (length ids)) (laid ns ids) ids) (ap (take (length c.numbers)) w ∙ laid_front c.numbers room)
   granted_ids room after (declines d) e w ids = absurd (let z : ◌≡◌ {A = ℕ} 0 1 = cc in omega arith)
-
-module _ (d : Declined) where
-  pub refused_answer : (a : Answer) → ◌≡◌ {A = Result Choice Declined} (Err d) (returned a) → (places : ℕ) → ◌≡◌ {A = Result Choice Refusal} (Err (refusal_of d)) (asked a places)
-  refused_answer nothing e places = absurd (let z : ◌≡◌ {A = ℕ} 0 1 = cc in omega arith)
-  refused_answer (chooses c) e places = absurd (let z : ◌≡◌ {A = ℕ} 0 1 = cc in omega arith)
-  refused_answer (declines f) e places = let h : d ≡ f = cc in ap (λ x. Err (refusal_of x)) h
-
-  pub refused_ids : (a : Answer) → ◌≡◌ {A = Result Choice Declined} (Err d) (returned a) → (ids : List ℕ) → ids ≡ noted a ids
-  refused_ids nothing e ids = refl
-  refused_ids (chooses c) e ids = absurd (let z : ◌≡◌ {A = ℕ} 0 1 = cc in omega arith)
-  refused_ids (declines f) e ids = refl
 
 -- ---- on a sheet that is sound
 module _ {K : Type 0} (cmp : K → K → Ordering) (g : List (Table K) → List ℕ → Answer) (sheet : List (Table K)) (standing : ℕ) (hs : List ℕ) (blobs : ℕ)

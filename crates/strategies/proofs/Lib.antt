@@ -5,7 +5,6 @@ pub mod FifoSteps
 pub mod Granted
 pub mod NamingAlike
 pub mod Places
-pub mod Searching
 pub mod Taking
 pub mod Tested
 pub mod Weighing

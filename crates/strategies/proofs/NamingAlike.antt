@@ -1,12 +1,12 @@
 -- On tables that are equal but for keys that compare alike, tests that come out alike name alike.
 use Rattle.std.proofs.Common.{◌≡◌, ℕ, Bool, cond, ◌&&◌, ◌||◌, List, [], ◌∷◌, map, filter, Option, Ordering, refl, ap, ◌∙◌}
+use Rattle.std.specs.List.{list_any, list_all}
 use Rattle.keys.specs.declared.key_range.KeyRange.{KeyRange}
 use Rattle.keys.specs.Pairing.{Both, CompareAlike}
 use Rattle.keys.proofs.Alike.{cond_alike, kept_alike, meets_alike}
 use Rattle.runs.specs.declared.table.Table.{Table}
 use Rattle.runs.specs.Pairing.{Twin, TwinSpans, no_span, a_span}
 use Rattle.sheets.specs.Level.{numbers_of, size_of}
-use Rattle.sheets.specs.Members.{some, all_by}
 use Rattle.sheets.proofs.AlikeLevels.{numbers_alike, size_alike}
 use Rattle.strategies.specs.declared.choice.Kind.{Kind}
 use Rattle.strategies.specs.Answer.{chooses, naming}
@@ -23,11 +23,11 @@ pub or_same : {a b c d : Bool} → a ≡ b → c ≡ d → (a || c) ≡ (b || d)
 or_same e f = rw (e, f)
 
 module _ {X : Type 0} where
-  pub some_same : (p q : X → Bool) → ((x : X) → p x ≡ q x) → (xs : List X) → some p xs ≡ some q xs
+  pub some_same : (p q : X → Bool) → ((x : X) → p x ≡ q x) → (xs : List X) → list_any p xs ≡ list_any q xs
   some_same p q f [] = refl
   some_same p q f (x ∷ xs) = rw (f x, some_same p q f xs)
 
-  pub all_same : (p q : X → Bool) → ((x : X) → p x ≡ q x) → (xs : List X) → all_by p xs ≡ all_by q xs
+  pub all_same : (p q : X → Bool) → ((x : X) → p x ≡ q x) → (xs : List X) → list_all p xs ≡ list_all q xs
   all_same p q f [] = refl
   all_same p q f (x ∷ xs) = rw (f x, all_same p q f xs)
 

@@ -1,8 +1,8 @@
 -- FIFO: what has expired, and the oldest of what is left above the limit.
 use Rattle.std.specs.Prelude.{ℕ, suc, ◌+◌, ◌-◌, ◌*◌, Bool, cond, not, ◌&&◌, ◌||◌, List, [], ◌∷◌, sum_by, filter, ◌==◌, nat_eq, nat_le, nat_lt}
+use Rattle.std.specs.List.{list_any}
 use Rattle.runs.specs.declared.table.Table.{Table}
 use Rattle.sheets.specs.Level.{in_level, level_of, size_of, runs}
-use Rattle.sheets.specs.Members.{some}
 use Rattle.sheets.specs.Tables.{named}
 use Rattle.strategies.specs.declared.choice.Kind.TheVariants.{Drop}
 use Rattle.strategies.specs.declared.declined.Declined.TheVariants.{ManyRuns, HiddenTable}
@@ -57,7 +57,7 @@ module _ {K : Type 0} (limit ttl blobs clock : ℕ) where
   -- nothing on an empty level 0; refused on two runs, then on a hidden table; else a drop of what goes, if anything does
   abbrev pub fifo : List (Table K) → List ℕ → Answer
   fifo ts hs =
-      cond (not (some (in_level 0) ts)) nothing
+      cond (not (list_any (in_level 0) ts)) nothing
       (cond (nat_lt 1 (runs ts)) (declines ManyRuns)
-      (cond (some (hidden_first hs) ts) (declines (HiddenTable (place_of (hidden_first hs) ts)))
-      (cond (some (goes ttl clock limit (left_over ttl clock blobs ts) ts) ts) (naming Drop 0 0 0 (goes ttl clock limit (left_over ttl clock blobs ts) ts) ts) nothing)))
+      (cond (list_any (hidden_first hs) ts) (declines (HiddenTable (place_of (hidden_first hs) ts)))
+      (cond (list_any (goes ttl clock limit (left_over ttl clock blobs ts) ts) ts) (naming Drop 0 0 0 (goes ttl clock limit (left_over ttl clock blobs ts) ts) ts) nothing)))

@@ -1,13 +1,13 @@
 -- Major, range drop and FIFO keep the law, and say of what they name what is so.
 -- Lemmas for a law that an impl owes, whose term can cite specs/ alone: they are proved, and nothing here has to be believed.
 use Rattle.std.specs.Prelude.{ℕ, Bool, true, cond, not, ◌&&◌, List, nat_lt}
+use Rattle.std.specs.List.{list_any}
 use Rattle.std.specs.declared.cmp.Ordering.{Ordering}
 use Rattle.std.proofs.Common.{arith}
 use Rattle.std.proofs.lemmas.Bool.{true≢false, cond_both}
 use Rattle.keys.specs.declared.bounds.OwnedBounds.{OwnedBounds}
 use Rattle.runs.specs.declared.table.Table.{Table}
 use Rattle.sheets.specs.Level.{in_level, runs}
-use Rattle.sheets.specs.Members.{some}
 use Rattle.sheets.specs.Sound.{Sound}
 use Rattle.sheets.specs.Tables.{named}
 use Rattle.strategies.specs.declared.choice.Kind.TheVariants.{Merge, Drop}
@@ -25,18 +25,18 @@ module _ {K : Type 0} (cmp : K → K → Ordering) where
     either b a h = cond_both b nothing a P (λ e. rests) (λ e. h)
 
     major_so : (target : ℕ) (ts : List (Table K)) (hs : List ℕ) → P (naming Merge 6 6 target (λ t. true) ts) → P (major target ts hs)
-    major_so target ts hs h = either (some (named hs) ts) _ h
+    major_so target ts hs h = either (list_any (named hs) ts) _ h
 
     module _ (ts : List (Table K)) (drops : (p : Table K → Bool) → P (naming Drop 0 0 0 p ts)) where
       drop_range_so : (bounds : OwnedBounds K) (hs : List ℕ) → P (drop_range cmp bounds ts hs)
-      drop_range_so bounds hs = either (some (λ t. in_bounds cmp bounds t && named hs t) ts) _ (drops (in_bounds cmp bounds))
+      drop_range_so bounds hs = either (list_any (λ t. in_bounds cmp bounds t && named hs t) ts) _ (drops (in_bounds cmp bounds))
 
       fifo_so : ((d : _) → P (declines d)) → (limit ttl blobs clock : ℕ) (hs : List ℕ) → P (fifo limit ttl blobs clock ts hs)
       fifo_so refuses limit ttl blobs clock hs =
-          either (not (some (in_level 0) ts)) _
+          either (not (list_any (in_level 0) ts)) _
           (cond_both (nat_lt 1 (runs ts)) _ _ P (λ e. refuses _)
-          (λ e. cond_both (some (hidden_first hs) ts) _ _ P (λ f. refuses _)
-          (λ f. cond_both (some p ts) (naming Drop 0 0 0 p ts) _ P (λ i. drops p) (λ i. rests))))
+          (λ e. cond_both (list_any (hidden_first hs) ts) _ _ P (λ f. refuses _)
+          (λ f. cond_both (list_any p ts) (naming Drop 0 0 0 p ts) _ P (λ i. drops p) (λ i. rests))))
         where
           p : Table K → Bool
           p = goes ttl clock limit (left_over ttl clock blobs ts) ts

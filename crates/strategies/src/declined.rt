@@ -15,12 +15,11 @@ pub enum Declined {
     HiddenTable(usize),
 }
 
-impl Declined {
-    /// The refusal of the library that it is.
-    pub fn refusal(self) -> Refusal
-        ensures { result ≡ refusal_of self }
-    {
-        match self {
+impl From<Declined> for Refusal {
+    ghost from_gives = { λ d r. r ≡ refusal_of d };
+
+    fn from(declined: Declined) -> Refusal {
+        match declined {
             Declined::BadSetting => Refusal::BadSetting,
             Declined::ManyRuns => Refusal::ManyRuns,
             Declined::HiddenTable(place) => Refusal::HiddenTable(place),

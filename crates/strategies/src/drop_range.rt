@@ -7,11 +7,11 @@ ghost use Rattle.strategies.specs.Laws.{drop_range_lawful};
 use crate::choice::Choice;
 use crate::declined::Declined;
 use crate::naming::{Picks, has_hidden_passing, name_passing};
+use crate::snapshot::Snapshot;
 use crate::strategy::CompactionStrategy;
 use keys::bounds::OwnedBounds;
 use keys::key_kind::KeyKind;
 use runs::table::Table;
-use sheets::hidden_set::HiddenSet;
 
 impl<K: KeyKind> Picks<K> for OwnedBounds<K> {
     ghost passes = { λ bounds t. within K.ranks bounds t.range };
@@ -33,16 +33,13 @@ impl<K: KeyKind> CompactionStrategy<K> for DropRange {
     ghost keeps = { λ s blobs clock. drop_range_lawful K.ranks s };
 
     fn choose(
-        settings: &OwnedBounds<K>,
-        tables: &[Table<K>],
-        hidden_set: &HiddenSet,
-        _blob_total: u64,
-        _clock: u64,
+        bounds: &OwnedBounds<K>,
+        snapshot: &Snapshot<'_, K>,
         ids: &mut [u64],
     ) -> Result<Choice, Declined> {
-        if has_hidden_passing(tables, settings, hidden_set) {
+        if has_hidden_passing(snapshot.tables, bounds, snapshot.hidden_set) {
             return Ok(Choice::DoNothing);
         }
-        Ok(Choice::Drop(name_passing(tables, settings, ids)))
+        Ok(Choice::Drop(name_passing(snapshot.tables, bounds, ids)))
     }
 }

@@ -1,15 +1,13 @@
 //! FIFO: tables leave by age, in the order in which they came.
-ghost use Rattle.std.specs.Prelude.{◌≡◌, ◌^◌, ◌≤◌, true, if◌then◌else◌, Some, None};
+ghost use Rattle.std.specs.Prelude.{◌≡◌, position};
 ghost use Rattle.sheets.specs.HiddenSet.{hidden};
-ghost use Rattle.sheets.specs.Level.{size_of, Stacked};
-ghost use Rattle.sheets.specs.Members.{some};
-ghost use Rattle.strategies.specs.Fifo.{place_of, hidden_first, expired, expired_first, live, left_over, fifo};
+ghost use Rattle.strategies.specs.Fifo.{hidden_first, expired, expired_first, live, left_over, fifo};
 ghost use Rattle.strategies.specs.Laws.{fifo_lawful};
 
 use crate::choice::Choice;
 use crate::declined::Declined;
-use crate::naming::name_passing;
-use crate::outgoing::Outgoing;
+use crate::naming::name_those;
+use crate::snapshot::Snapshot;
 use crate::strategy::CompactionStrategy;
 use keys::key_kind::KeyKind;
 use runs::table::Table;
@@ -60,15 +58,12 @@ impl FifoSettings {
     }
 
     // What is left of level 0's sizes and the blob total without what has expired, down to 0.
-    fn left_over<K>(&self, tables: &[Table<K>], blob_total: u64, clock: u64) -> u64
-        requires stacked { Stacked tables.now }
-        requires light { size_of tables.now ≤ 2 ^ 53 }
-        requires blob { blob_total ≤ 2 ^ 53 }
-        ensures { result ≡ left_over self.now.ttl_seconds clock blob_total tables.now }
+    fn left_over<K: KeyKind>(&self, snapshot: &Snapshot<'_, K>) -> u64
+        ensures { result ≡ left_over self.now.ttl_seconds snapshot.now.clock snapshot.now.blob_total snapshot.now.tables.now }
     {
-        let mut left = size(level(tables, 0).tables) + blob_total;
-        for t in tables {
-            if self.is_due(t, clock) {
+        let mut left = size(level(snapshot.tables, 0).tables) + snapshot.blob_total;
+        for t in snapshot.tables {
+            if self.is_due(t, snapshot.clock) {
                 left = left.saturating_sub(t.size).saturating_sub(t.linked);
             }
         }
@@ -78,15 +73,11 @@ impl FifoSettings {
 
 // The place of the first hidden table of level 0.
 fn first_hidden<K>(tables: &[Table<K>], hidden_set: &HiddenSet) -> Option<usize>
-    ensures { result ≡ (if some (hidden_first (hidden hidden_set.now)) tables.now then Some (place_of (hidden_first (hidden hidden_set.now)) tables.now) else None) }
+    ensures { result ≡ position (hidden_first (hidden hidden_set.now)) tables.now }
 {
-    for i in 0..tables.len() {
-        let table = &tables[i];
-        if table.level == 0 && hidden_set.is_hidden(table.number) {
-            return Some(i);
-        }
-    }
-    None
+    tables
+        .iter()
+        .position(|t| t.level == 0 && hidden_set.is_hidden(t.number))
 }
 
 impl<K: KeyKind> CompactionStrategy<K> for Fifo {
@@ -98,29 +89,21 @@ impl<K: KeyKind> CompactionStrategy<K> for Fifo {
 
     fn choose(
         settings: &FifoSettings,
-        tables: &[Table<K>],
-        hidden_set: &HiddenSet,
-        blob_total: u64,
-        clock: u64,
+        snapshot: &Snapshot<'_, K>,
         ids: &mut [u64],
     ) -> Result<Choice, Declined> {
-        if level(tables, 0).tables.is_empty() {
+        if level(snapshot.tables, 0).tables.is_empty() {
             return Ok(Choice::DoNothing);
         }
-        if run_count(tables) > MOST_RUNS {
+        if run_count(snapshot.tables) > MOST_RUNS {
             return Err(Declined::ManyRuns);
         }
-        if let Some(place) = first_hidden(tables, hidden_set) {
+        if let Some(place) = first_hidden(snapshot.tables, snapshot.hidden_set) {
             return Err(Declined::HiddenTable(place));
         }
-        let left = settings.left_over(tables, blob_total, clock);
-        let test = Outgoing {
-            settings: *settings,
-            clock,
-            left,
-            tables,
-        };
-        let named = name_passing(tables, &test, ids);
+        let (tables, clock) = (snapshot.tables, snapshot.clock);
+        let left = settings.left_over(snapshot);
+        let named = name_those(tables, |t| settings.drops(tables, clock, left, t), ids);
         if named.count == 0 {
             return Ok(Choice::DoNothing);
         }

@@ -9,4 +9,5 @@ pub mod major;
 pub mod naming;
 pub mod outgoing;
 pub mod question;
+pub mod snapshot;
 pub mod strategy;

@@ -1,15 +1,13 @@
 //! Major: every table is merged into the last level.
-ghost use Rattle.std.specs.Prelude.{true};
 ghost use Rattle.strategies.specs.Major.{major};
 ghost use Rattle.strategies.specs.Laws.{major_lawful};
 
 use crate::choice::{Choice, Input};
 use crate::declined::Declined;
-use crate::naming::{Picks, name_passing};
+use crate::naming::name_those;
+use crate::snapshot::Snapshot;
 use crate::strategy::CompactionStrategy;
 use keys::key_kind::KeyKind;
-use runs::table::Table;
-use sheets::hidden_set::HiddenSet;
 use sheets::level::has_hidden;
 use sheets::sound::LAST_LEVEL;
 
@@ -24,18 +22,6 @@ pub struct MajorSettings {
 #[derive(Clone, Copy)]
 pub struct Major;
 
-// The test that every table passes.
-#[derive(Clone, Copy)]
-struct AnyTable;
-
-impl<K: KeyKind> Picks<K> for AnyTable {
-    ghost passes = { λ any t. true };
-
-    fn picks(&self, _table: &Table<K>) -> bool {
-        true
-    }
-}
-
 impl<K: KeyKind> CompactionStrategy<K> for Major {
     type Settings = MajorSettings;
 
@@ -45,17 +31,14 @@ impl<K: KeyKind> CompactionStrategy<K> for Major {
 
     fn choose(
         settings: &MajorSettings,
-        tables: &[Table<K>],
-        hidden_set: &HiddenSet,
-        _blob_total: u64,
-        _clock: u64,
+        snapshot: &Snapshot<'_, K>,
         ids: &mut [u64],
     ) -> Result<Choice, Declined> {
-        if has_hidden(tables, hidden_set) {
+        if has_hidden(snapshot.tables, snapshot.hidden_set) {
             return Ok(Choice::DoNothing);
         }
         Ok(Choice::Merge(Input {
-            tables: name_passing(tables, &AnyTable, ids),
+            tables: name_those(snapshot.tables, |_| true, ids),
             dest_level: LAST_LEVEL,
             canonical_level: LAST_LEVEL,
             target_size: settings.target_size,

@@ -1,20 +1,18 @@
 //! How an answer names tables: those that pass a test, in sheet order.
-ghost use Rattle.std.specs.Prelude.{◌≡◌, ◌^◌, ◌≤◌, Bool, ◌&&◌, length, filter};
+ghost use Rattle.std.specs.Prelude.{◌≡◌, ◌+◌, ◌^◌, ◌<◌, ◌≤◌, Bool, ◌&&◌, length, filter, IfOk};
+ghost use Rattle.std.specs.List.{list_any};
 ghost use Rattle.runs.specs.declared.table.Table.{Table};
 ghost use Rattle.sheets.specs.Edits.{laid};
 ghost use Rattle.sheets.specs.HiddenSet.{hidden};
 ghost use Rattle.sheets.specs.Level.{numbers_of, size_of};
-ghost use Rattle.sheets.specs.Members.{some};
 ghost use Rattle.sheets.specs.Tables.{named as hides};
-ghost use Rattle.strategies.specs.Naming.{passing, weighed, named, written};
+ghost use Rattle.strategies.specs.Naming.{Tests, passing, weighed, named, written};
 
 use keys::key_kind::KeyKind;
 use refusals::refusal::Refusal;
 use runs::table::Table;
 use sheets::hidden_set::HiddenSet;
-
-/// The most bytes that some tables may have together: 2^53.
-pub const MOST_BYTES: u64 = 9_007_199_254_740_992;
+use sheets::sound::MOST_BYTES;
 
 /// How many tables are named, and the sum of their sizes. Their numbers are in the id sheet.
 #[derive(Clone, Copy)]
@@ -23,7 +21,23 @@ pub struct Named {
     pub bytes: u64,
 }
 
-/// A test of tables.
+impl Named {
+    // One table more is named.
+    fn add<K>(&mut self, table: &Table<K>)
+        requires count { self.old.count + 1 < 2 ^ 64 }
+        requires bytes { self.old.bytes + table.now.size < 2 ^ 64 }
+        ensures count { self.new.count ≡ self.old.count + 1 }
+        ensures bytes { self.new.bytes ≡ self.old.bytes + table.now.size }
+    {
+        self.count += 1;
+        self.bytes += table.size;
+    }
+}
+
+// No table is named.
+const NONE: Named = Named { count: 0, bytes: 0 };
+
+/// A test of tables that is a type of its own: a call takes it without a `requires`, which a closure would need.
 pub trait Picks<K: KeyKind> {
     // Whether a table passes.
     ghost passes: { Self → Table K → Bool };
@@ -34,35 +48,19 @@ pub trait Picks<K: KeyKind> {
 }
 
 // How many tables pass, and their bytes; refused where all the sizes together are above the limit.
-fn weigh<K: KeyKind, P: Picks<K>>(tables: &[Table<K>], test: &P) -> Result<Named, Refusal>
-    ensures { result ≡ weighed (P.Picks.passes test.now) tables.now }
+fn weigh<K, F: Fn(&Table<K>) -> bool>(tables: &[Table<K>], test: &F) -> Result<Named, Refusal>
+    requires { F.IsAlwaysCallable test.now }
+    ensures { (p : Table K → Bool) → Tests F.Fn test.now p → result ≡ weighed p tables.now }
 {
     let mut left = MOST_BYTES;
-    let mut count: usize = 0;
-    let mut bytes: u64 = 0;
-    for i in 0..tables.len() {
-        let table = tables[i];
-        if left < table.size {
-            return Err(Refusal::NotSound);
-        }
-        left -= table.size;
-        if test.picks(&table) {
-            count += 1;
-            bytes += table.size;
+    let mut named = NONE;
+    for t in tables {
+        left = left.checked_sub(t.size).ok_or(Refusal::NotSound)?;
+        if test(t) {
+            named.add(t);
         }
     }
-    Ok(Named { count, bytes })
-}
-
-// Whether the table passes and is hidden.
-fn is_hidden_passing<K: KeyKind, P: Picks<K>>(
-    table: &Table<K>,
-    test: &P,
-    hidden_set: &HiddenSet,
-) -> bool
-    ensures { result ≡ (P.Picks.passes test.now table.now && hides (hidden hidden_set.now) table.now) }
-{
-    test.picks(table) && hidden_set.is_hidden(table.number)
+    Ok(named)
 }
 
 /// Whether one of the tables that pass is hidden.
@@ -71,11 +69,22 @@ pub fn has_hidden_passing<K: KeyKind, P: Picks<K>>(
     test: &P,
     hidden_set: &HiddenSet,
 ) -> bool
-    ensures { result ≡ some (λ t. P.Picks.passes test.now t && hides (hidden hidden_set.now) t) tables.now }
+    ensures { result ≡ list_any (λ t. P.Picks.passes test.now t && hides (hidden hidden_set.now) t) tables.now }
 {
-    for i in 0..tables.len() {
-        let table = tables[i];
-        if is_hidden_passing(&table, test, hidden_set) {
+    any_hidden(tables, |t| test.picks(t), hidden_set)
+}
+
+// Whether one of the tables that pass is hidden.
+fn any_hidden<K, F: Fn(&Table<K>) -> bool>(
+    tables: &[Table<K>],
+    test: F,
+    hidden_set: &HiddenSet,
+) -> bool
+    requires { F.IsAlwaysCallable test }
+    ensures { (p : Table K → Bool) → Tests F.Fn test p → result ≡ list_any (λ t. p t && hides (hidden hidden_set.now) t) tables.now }
+{
+    for t in tables {
+        if test(t) && hidden_set.is_hidden(t.number) {
             return true;
         }
     }
@@ -94,17 +103,29 @@ pub fn name_passing<K: KeyKind, P: Picks<K>>(
     ensures answer { result ≡ passing (P.Picks.passes test.now) tables.now }
     ensures ids { ids.new ≡ laid (numbers_of (filter (P.Picks.passes test.now) tables.now)) ids.old }
 {
-    let mut count: usize = 0;
-    let mut bytes: u64 = 0;
-    for i in 0..tables.len() {
-        let table = tables[i];
-        if test.picks(&table) {
-            ids[count] = table.number;
-            count += 1;
-            bytes += table.size;
+    name_those(tables, |t| test.picks(t), ids)
+}
+
+// The same for a test that is a closure.
+pub(crate) fn name_those<K, F: Fn(&Table<K>) -> bool>(
+    tables: &[Table<K>],
+    test: F,
+    ids: &mut [u64],
+) -> Named
+    requires can { F.IsAlwaysCallable test }
+    requires light { size_of tables.now ≤ 2 ^ 53 }
+    requires room { (p : Table K → Bool) × Tests F.Fn test p × (length (numbers_of (filter p tables.now)) ≤ length ids.old) }
+    ensures answer { (p : Table K → Bool) → Tests F.Fn test p → result ≡ passing p tables.now }
+    ensures ids { (p : Table K → Bool) → Tests F.Fn test p → ids.new ≡ laid (numbers_of (filter p tables.now)) ids.old }
+{
+    let mut named = NONE;
+    for t in tables {
+        if test(t) {
+            ids[named.count] = t.number;
+            named.add(t);
         }
     }
-    Named { count, bytes }
+    named
 }
 
 /// Names the tables that pass: their numbers go into the front of the id sheet, whose rest keeps its content.
@@ -116,8 +137,9 @@ pub fn name_tables<K: KeyKind, P: Picks<K>>(
 ) -> Result<Named, Refusal>
     ensures answer { result ≡ named (P.Picks.passes test.now) tables.now (length ids.old) }
     ensures ids { ids.new ≡ written (P.Picks.passes test.now) tables.now ids.old }
+    ensures within { IfOk result (λ n. n.count ≤ length ids.new) }
 {
-    let named = weigh(tables, test)?;
+    let named = weigh(tables, &|t| test.picks(t))?;
     if ids.len() < named.count {
         return Err(Refusal::IdsTooShort);
     }

@@ -6,6 +6,7 @@ ghost use Rattle.sheets.specs.HiddenSet.{hidden};
 ghost use Rattle.strategies.specs.Question.{count_in, proposed, ids_after};
 
 use crate::choice::Choice;
+use crate::snapshot::Snapshot;
 use crate::strategy::CompactionStrategy;
 use keys::key_kind::KeyKind;
 use refusals::refusal::Refusal;
@@ -20,8 +21,7 @@ impl Choice {
     {
         match self {
             Choice::DoNothing => 0,
-            Choice::Move(input) => input.tables.count,
-            Choice::Merge(input) => input.tables.count,
+            Choice::Move(input) | Choice::Merge(input) => input.tables.count,
             Choice::Drop(named) => named.count,
         }
     }
@@ -45,11 +45,14 @@ pub fn propose<K: KeyKind, S: CompactionStrategy<K>>(
         return Err(Refusal::NotSound);
     }
     let mut room = [0u64; MOST_TABLES];
-    let tables = &sheet[0..standing];
-    match S::choose(settings, tables, hidden_set, blob_total, clock, &mut room) {
-        Ok(choice) => hand_out(choice, &room, ids),
-        Err(declined) => Err(declined.refusal()),
-    }
+    let snapshot = Snapshot {
+        tables: &sheet[0..standing],
+        hidden_set,
+        blob_total,
+        clock,
+    };
+    let choice = S::choose(settings, &snapshot, &mut room)?;
+    hand_out(choice, &room, ids)
 }
 
 // Copies the numbers of a choice's tables from the front of `room` into that of the id sheet.

@@ -1,31 +1,28 @@
-use Rattle.std.proofs.Common.{sym, arith}
-use Rattle.strategies.proofs.Weighing.{weigh_none, weigh_yes, weigh_not, weigh_over, weigh_all}
+use Rattle.std.proofs.Common.{◌≡◌, ◌+◌, Bool, sym, refl, ap, ◌∙◌, arith, rules}
+use Rattle.std.proofs.lemmas.Fn.{says_at}
+use Rattle.runs.specs.declared.table.Table.{Table}
+use Rattle.strategies.specs.Naming.{Tests}
+use Rattle.strategies.proofs.Weighing.{light_more, counted_yes, counted_not}
 use Rattle.strategies.proofs.naming.weigh.Goals as goal
-use Rattle.strategies.proofs.naming.weigh.Goals.{then-picks, else-picks}
+use Rattle.strategies.proofs.naming.weigh.Goals.{then-test, else-test}
 
-pub loop-i-init : goal.loop-i-init
-loop-i-init g c = weigh_none (g.P.Picks.passes c.args.test.now) c.args.tables.now
-
-pub returns-then-left-table : goal.returns-then-left-table
-returns-then-left-table g c =
-    weigh_over (g.P.Picks.passes c.args.test.now) c.args.tables.now c.loop-i.left c.loop-i.count c.loop-i.bytes c.loop-i.i
-    c.index-tables-i.result (omega arith) c.index-tables-i.is c.loop-i.invariant (omega arith)
-
-pub overflow_add-count : goal.overflow_add-count
-overflow_add-count g c = omega (arith, c.loop-i.invariant.few)
-
-pub overflow_add-bytes : goal.overflow_add-bytes
-overflow_add-bytes g c = omega (arith, c.loop-i.invariant.light)
-
-pub loop-i-preserved : goal.loop-i-preserved
-loop-i-preserved g c =
-    let p = g.P.Picks.passes c.args.test.now in
+pub loop-t-preserved : goal.loop-t-preserved
+loop-t-preserved g c =
     let ts = c.args.tables.now in
-    let t = c.index-tables-i.result in
-    elim c.if-picks.branch [
-      | then-picks w ↦ rw (w.count-is, w.bytes-is) (weigh_yes p ts c.loop-i.left c.loop-i.count c.loop-i.bytes c.loop-i.i t (omega arith) c.index-tables-i.is c.loop-i.invariant (omega arith) (sym w.if-picks.ensures))
-      | else-picks w ↦ rw (w.count-is, w.bytes-is) (weigh_not p ts c.loop-i.left c.loop-i.count c.loop-i.bytes c.loop-i.i t (omega arith) c.index-tables-i.is c.loop-i.invariant (omega arith) (sym w.if-picks.ensures))
+    let n = c.loop-t.named in
+    let i = c.loop-t.t-index in
+    let t = c.t-item.result in
+    let says : (p : Table g.row.K.Denot → Bool) → Tests g.F.Fn c.args.test.now p → p t ≡ c.test.result = λ p h. sym (h t c.test.result (says_at g.F.Fn c.test.ensures refl)) in
+    let less : c.in_ok-left.left + t.size ≡ c.loop-t.left = search rules in
+    elim c.if-test.branch [
+      | then-test w ↦
+          let count : c.if-test.named.count ≡ n.count + 1 = ap (λ m. m.count) w.named-is ∙ w.add.ensures.count in
+          let bytes : c.if-test.named.bytes ≡ n.bytes + t.size = ap (λ m. m.bytes) w.named-is ∙ w.add.ensures.bytes in (
+            light_more ts c.loop-t.left n i t (omega arith) c.t-item.is c.loop-t.invariant.0 c.if-test.named c.in_ok-left.left less (omega (arith, count)) (omega (arith, bytes)),
+            λ p h. counted_yes p ts n i t (omega arith) c.t-item.is (c.loop-t.invariant.1 p h) c.if-test.named count bytes (says p h ∙ w.if-test.true),
+          )
+      | else-test w ↦ (
+        light_more ts c.loop-t.left n i t (omega arith) c.t-item.is c.loop-t.invariant.0 c.if-test.named c.in_ok-left.left less (omega (arith, ap (λ m. m.count) w.named-is)) (omega (arith, ap (λ m. m.bytes) w.named-is)),
+        λ p h. counted_not p ts n i t (omega arith) c.t-item.is (c.loop-t.invariant.1 p h) c.if-test.named w.named-is (says p h ∙ w.if-test.false),
+      )
     ]
-
-pub returns : goal.returns
-returns g c = weigh_all (g.P.Picks.passes c.args.test.now) c.args.tables.now c.loop-i.left c.loop-i.count c.loop-i.bytes c.loop-i.i (omega arith) c.loop-i.invariant

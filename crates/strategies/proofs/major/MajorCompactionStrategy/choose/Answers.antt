@@ -1,10 +1,12 @@
-use Rattle.std.proofs.Common.{true}
-use Rattle.strategies.proofs.Tested.{tested_light, room_for_some}
+use Rattle.std.proofs.Common.{true, rules}
+use Rattle.strategies.proofs.Tested.{room_for_some}
 use Rattle.strategies.proofs.major.MajorCompactionStrategy.choose.Goals as goal
 
-pub name_passing-requires : goal.name_passing-requires
-name_passing-requires g c =
-    record {
-      light = tested_light g.met.K.KeyKind.total c.args.tables.now c.requires.sound;
-      room = room_for_some (λ t. true) c.args.tables.now _ c.requires.room;
-    }
+pub name_those-requires-clause-room : goal.name_those-requires-clause-room
+name_those-requires-clause-room g c = (λ t. true, λ t b h. search rules, room_for_some (λ t. true) c.args.snapshot.now.tables.now _ c.requires.room)
+
+pub returns : goal.returns
+returns g c =
+    let answer = c.name_those.ensures.answer (λ t. true) (λ t b h. search rules) in
+    let ids = c.name_those.ensures.ids (λ t. true) (λ t b h. search rules) in
+    search rules
