@@ -1,5 +1,5 @@
 -- Closing a job in the lent sheet is closing it on every book with that sheet.
-use Rattle.std.proofs.Common.{◌≡◌, ℕ, ◌-◌, ◌≤◌, Bool, true, false, cond, List, [], ◌∷◌, length, take, Some, None, Ok, Err, Option, Result, Ordering, sym, refl, ap, ◌∙◌, subst, arith}
+use Rattle.std.proofs.Common.{◌≡◌, ℕ, ◌≤◌, Bool, true, false, cond, List, [], ◌∷◌, length, take, Some, None, Ok, Err, Option, Result, Ordering, sym, refl, ap, ◌∙◌, subst, arith}
 use Rattle.keys.specs.KeyKind.{Laws}
 use Rattle.refusals.specs.declared.refusal.Refusal.{Refusal}
 use Rattle.refusals.specs.declared.refusal.Refusal.TheVariants.{BadTable, BadOutputs, Full}
@@ -22,7 +22,6 @@ use Rattle.books.proofs.Recounts.{recount_length}
 use Rattle.changes.specs.Changes.{on_sheet, SoundOn}
 use Rattle.changes.specs.Close.{swapped, Runs, Says, Closes}
 use Rattle.changes.proofs.Landings.{stands_on}
-use Rattle.changes.proofs.Starts.{from_start}
 
 in_out : {X : Type 0} {x : X} {xs : List X} → In x xs → (ys : List X) × Out x xs ys
 in_out (here {y} {ys} e) = (ys, subst (λ z. Out z (y ∷ ys) ys) (sym e) first)
@@ -43,21 +42,21 @@ module _ {K : Type 0} (cmp : K → K → Ordering) (j : Running) (outs : List (F
   abbrev in_room : State K → Bool → State K × Result (Unit {0}) Refusal
   in_room st b = cond b (with_tables (freed cmp j st) (length (closed cmp j outs st.tables)) (closed cmp j outs st.tables), Ok tt) (st, Err Full)
 
-  pub says_tables : (place : ℕ) → Some place ≡ faulty (take (n - 0) s) → Says cmp j outs s n (Err (BadTable place))
-  says_tables place h blobs hidden slots = ap (λ o. (unless_tables cmp o j outs (on_sheet s n blobs hidden slots)).1) (h ∙ ap faulty (from_start s n))
+  pub says_tables : (place : ℕ) → Some place ≡ faulty (take n s) → Says cmp j outs s n (Err (BadTable place))
+  says_tables place h blobs hidden slots = ap (λ o. (unless_tables cmp o j outs (on_sheet s n blobs hidden slots)).1) h
 
-  module _ (fresh : None ≡ faulty (take (n - 0) s)) where
+  module _ (fresh : None ≡ faulty (take n s)) where
     past_tables : (st : State K) → (unless_tables cmp None j outs st).1 ≡ (unless_tables cmp (faulty ts) j outs st).1
-    past_tables st = ap (λ o. (unless_tables cmp o j outs st).1) (fresh ∙ ap faulty (from_start s n))
+    past_tables st = ap (λ o. (unless_tables cmp o j outs st).1) fresh
 
-    pub says_outputs : (place : ℕ) → Some place ≡ misfit (take (n - 0) s) → Says cmp j outs s n (Err (BadOutputs place))
+    pub says_outputs : (place : ℕ) → Some place ≡ misfit (take n s) → Says cmp j outs s n (Err (BadOutputs place))
     says_outputs place h blobs hidden slots =
         let st = on_sheet s n blobs hidden slots in
-        ap (λ o. (unless_outputs cmp o j outs st).1) (h ∙ ap misfit (from_start s n)) ∙ past_tables st
+        ap (λ o. (unless_outputs cmp o j outs st).1) h ∙ past_tables st
 
-    module _ (good : None ≡ misfit (take (n - 0) s)) where
+    module _ (good : None ≡ misfit (take n s)) where
       past_outputs : (st : State K) → (unless_outputs cmp None j outs st).1 ≡ (unless_outputs cmp (misfit ts) j outs st).1
-      past_outputs st = ap (λ o. (unless_outputs cmp o j outs st).1) (good ∙ ap misfit (from_start s n))
+      past_outputs st = ap (λ o. (unless_outputs cmp o j outs st).1) good
 
       pub says_full : false ≡ has_room (length s) (closed cmp j outs ts) → Says cmp j outs s n (Err Full)
       says_full h blobs hidden slots =

@@ -1,5 +1,5 @@
 -- A landing in the lent sheet is the landing on every book with that sheet.
-use Rattle.std.proofs.Common.{◌≡◌, ℕ, ◌+◌, ◌-◌, ◌<◌, ◌≤◌, Bool, true, false, cond, List, length, take, Ok, Err, Option, Result, Ordering, sym, refl, ap, ◌∙◌, arith}
+use Rattle.std.proofs.Common.{◌≡◌, ℕ, ◌+◌, ◌<◌, ◌≤◌, Bool, true, false, cond, List, length, take, Ok, Err, Option, Result, Ordering, sym, refl, ap, ◌∙◌, arith}
 use Rattle.std.proofs.lemmas.List.{length-take-le}
 use Rattle.std.proofs.lemmas.Bool.{cond-true, cond-false}
 use Rattle.refusals.specs.declared.refusal.Refusal.{Refusal}
@@ -7,7 +7,8 @@ use Rattle.refusals.specs.declared.refusal.Refusal.TheVariants.{BadTable, Full}
 use Rattle.runs.specs.declared.fresh.Fresh.{Fresh}
 use Rattle.runs.specs.declared.table.Table.{Table}
 use Rattle.sheets.specs.Edits.{laid}
-use Rattle.sheets.specs.Tables.{settled, insert}
+use Rattle.runs.specs.Fresh.{settled}
+use Rattle.sheets.specs.Tables.{insert}
 use Rattle.sheets.proofs.Laid.{take_laid}
 use Rattle.books.specs.Job.{Running}
 use Rattle.books.specs.Land.{has_room, fresh_ok, landing_run, landed}
@@ -16,7 +17,6 @@ use Rattle.books.proofs.ClosedJobs.{room_parts}
 use Rattle.books.proofs.Rooms.{landed_length}
 use Rattle.changes.specs.Changes.{on_sheet}
 use Rattle.changes.specs.Land.{admitted, Lands}
-use Rattle.changes.proofs.Starts.{from_start}
 
 -- ---- the state of a book on a changed sheet
 pub stands_on : {K : Type 0} (s ts : List (Table K)) (n room blobs : ℕ) (hidden : List ℕ) (slots : List (Option Running)) → room ≡ length s → length ts ≡ n → ts ≡ take n s
@@ -46,20 +46,17 @@ module _ {K : Type 0} (cmp : K → K → Ordering) (f : Fresh K) (s : List (Tabl
   ts = take n s
 
   -- ---- what the tests come to
-  fresh_is : (b : Bool) → b ≡ fresh_ok cmp (take (n - 0) s) f → fresh_ok cmp ts f ≡ b
-  fresh_is b e = sym (e ∙ ap (λ us. fresh_ok cmp us f) (from_start s n))
+  pub admit_bad : false ≡ fresh_ok cmp (take n s) f → Err (BadTable 0) ≡ admitted cmp f (length s) ts
+  admit_bad h = sym (cond-false (fresh_ok cmp ts f) _ _ (sym h))
 
-  pub admit_bad : false ≡ fresh_ok cmp (take (n - 0) s) f → Err (BadTable 0) ≡ admitted cmp f (length s) ts
-  admit_bad h = sym (cond-false (fresh_ok cmp ts f) _ _ (fresh_is false h))
-
-  module _ (fresh : true ≡ fresh_ok cmp (take (n - 0) s) f) where
+  module _ (fresh : true ≡ fresh_ok cmp (take n s) f) where
     pub admit_full : false ≡ has_room (length s) (landed cmp f ts) → Err Full ≡ admitted cmp f (length s) ts
-    admit_full h = sym (cond-true (fresh_ok cmp ts f) _ _ (fresh_is true fresh) ∙ cond-false (has_room (length s) (landed cmp f ts)) _ _ (sym h))
+    admit_full h = sym (cond-true (fresh_ok cmp ts f) _ _ (sym fresh) ∙ cond-false (has_room (length s) (landed cmp f ts)) _ _ (sym h))
 
-    pub admit_run : true ≡ has_room (length s) (landed cmp f ts) → (run : ℕ) → run ≡ landing_run cmp f (take (n - 0) s) → Ok run ≡ admitted cmp f (length s) ts
+    pub admit_run : true ≡ has_room (length s) (landed cmp f ts) → (run : ℕ) → run ≡ landing_run cmp f (take n s) → Ok run ≡ admitted cmp f (length s) ts
     admit_run h run e =
-        ap Ok (e ∙ ap (landing_run cmp f) (from_start s n))
-        ∙ sym (cond-true (fresh_ok cmp ts f) _ _ (fresh_is true fresh) ∙ cond-true (has_room (length s) (landed cmp f ts)) _ _ (sym h))
+        ap Ok e
+        ∙ sym (cond-true (fresh_ok cmp ts f) _ _ (sym fresh) ∙ cond-true (has_room (length s) (landed cmp f ts)) _ _ (sym h))
 
   -- ---- what a landing leaves
   pub land_refused : (e : Refusal) → Err e ≡ admitted cmp f (length s) ts → Lands cmp f s n s (Err e)

@@ -1,16 +1,12 @@
--- The tables that a job leaves, weighed one by one; and the span of those that it takes.
-use Rattle.std.proofs.Common.{◌≡◌, ℕ, ◌+◌, ◌<◌, ◌≤◌, true, false, List, [], ◌∷◌, ◌++◌, length, get_or, take, Some, filter, Option, Ordering, sym, refl, ap, ◌∙◌, arith}
+-- The tables that a job leaves, weighed one by one.
+use Rattle.std.proofs.Common.{◌≡◌, ℕ, ◌+◌, ◌<◌, ◌≤◌, true, false, List, length, get_or, take, sym, ap, ◌∙◌, arith}
 use Rattle.std.proofs.lemmas.List.{length_push, take_all}
-use Rattle.std.proofs.lemmas.List.Sums.{fold_push, sum_by_push, sum_by-take-le}
-use Rattle.keys.specs.declared.key_range.KeyRange.{KeyRange}
-use Rattle.keys.specs.KeyRange.{wider}
+use Rattle.std.proofs.lemmas.List.Sums.{sum_by_push, sum_by-take-le}
 use Rattle.runs.specs.declared.table.Table.{Table}
-use Rattle.runs.specs.Run.{span_of}
 use Rattle.sheets.specs.Level.{size_of}
-use Rattle.sheets.specs.Tables.{named, unnamed, without}
+use Rattle.sheets.specs.Tables.{unnamed, without}
 use Rattle.edits.proofs.Filtering.{kept_yes, kept_no}
 use Rattle.books.proofs.Rooms.{both_size}
-use Rattle.changes.specs.Close.{grown}
 
 -- of the first i tables those that are not named are so many, with so many bytes
 pub record Weighed {K : Type 0} (ns : List ℕ) (ts : List (Table K)) (count bytes i : ℕ) : Type 0 where
@@ -42,22 +38,3 @@ module _ {K : Type 0} (ns : List ℕ) (ts : List (Table K)) (count bytes i : ℕ
   -- no more than all have
   pub weigh_light : unnamed ns x ≡ true → bytes + x.size ≤ size_of ts
   weigh_light is = omega (arith, (weigh_yes is).weight, both_size ns (take (i + 1) ts), sum_by-take-le (λ t. t.size) ts (i + 1))
-
--- ---- the span
-span_push : {K T : Type 0} (cmp : K → K → Ordering) (spans : T → KeyRange K) (ts : List T) (t : T) → span_of cmp spans (ts ++ t ∷ []) ≡ Some (grown cmp (span_of cmp spans ts) (spans t))
-span_push cmp spans [] t = refl
-span_push cmp spans (u ∷ us) t = ap Some (fold_push (λ r v. wider cmp r (spans v)) (spans u) us t)
-
--- the span of the named of the first i tables, with one more
-module _ {K : Type 0} (cmp : K → K → Ordering) (ns : List ℕ) (ts : List (Table K)) (i : ℕ) where
-  abbrev pub span_so_far : Option (KeyRange K)
-  span_so_far = span_of cmp (λ t. t.range) (filter (named ns) (take i ts))
-
-  module _ (x : Table K) (lt : i < length ts) (e : x ≡ get_or ts i x) where
-    pub span_no : false ≡ named ns x → span_so_far ≡ span_of cmp (λ t. t.range) (filter (named ns) (take (i + 1) ts))
-    span_no is = sym (ap (span_of cmp (λ t. t.range)) (kept_no (named ns) ts i x lt e (sym is)))
-
-    pub span_yes : true ≡ named ns x → (span : Option (KeyRange K)) → span ≡ span_so_far → Some (grown cmp span x.range) ≡ span_of cmp (λ t. t.range) (filter (named ns) (take (i + 1) ts))
-    span_yes is span so_far' =
-        ap (λ o. Some (grown cmp o x.range)) so_far'
-        ∙ sym (ap (span_of cmp (λ t. t.range)) (kept_yes (named ns) ts i x lt e (sym is)) ∙ span_push cmp (λ t. t.range) (filter (named ns) (take i ts)) x)

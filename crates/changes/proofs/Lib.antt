@@ -3,7 +3,4 @@ pub mod Faults
 pub mod Landings
 pub mod Left
 pub mod Rooms
-pub mod Scans
-pub mod Starts
 pub mod Swaps
-pub mod Wanted

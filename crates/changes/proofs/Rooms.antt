@@ -9,11 +9,10 @@ use Rattle.sheets.specs.Tables.{without}
 use Rattle.strategies.specs.declared.choice.Kind.{Kind}
 use Rattle.strategies.specs.declared.choice.Kind.TheVariants.{Move, Merge, Drop}
 use Rattle.books.specs.Close.{closed}
+use Rattle.books.specs.Job.{Running}
 use Rattle.books.specs.Land.{has_room, landed}
 use Rattle.books.proofs.Rooms.{both_length, both_size, landed_room, merge_room, closed_room}
-use Rattle.changes.specs.Close.{job, merge_fits}
-use Rattle.changes.proofs.Starts.{from_start}
-use Rattle.changes.proofs.Wanted.{no_merge}
+use Rattle.changes.specs.Close.{merge_fits}
 
 -- a sum within a limit, as it is tested without forming the sum
 pub under : (w z m : ℕ) → w ≤ m → leb z (m - w) ≡ leb (w + z) m
@@ -30,26 +29,20 @@ module _ {K : Type 0} (cmp : K → K → Ordering) (f : Fresh K) (ts : List (Tab
 
 -- ---- outputs in place of the tables of a merge: those that stay are so many, with so many bytes
 module _ {K : Type 0} (ns : List ℕ) (s : List (Table K)) (n : ℕ) (outs : List (Fresh K)) (fits : n ≤ length s) (total : size_of (take n s) ≤ 2 ^ 53) (count bytes : ℕ)
-    (tables : count ≡ length (without ns (take (n - 0) s))) (weight : bytes ≡ size_of (without ns (take (n - 0) s))) where
+    (tables : count ≡ length (without ns (take n s))) (weight : bytes ≡ size_of (without ns (take n s))) where
   abbrev stay : List (Table K)
   stay = without ns (take n s)
 
-  count_is : count ≡ length stay
-  count_is = tables ∙ ap (λ us. length (without ns us)) (from_start s n)
-
-  bytes_is : bytes ≡ size_of stay
-  bytes_is = weight ∙ ap (λ us. size_of (without ns us)) (from_start s n)
-
   pub stay_count : count ≤ length s
-  stay_count = omega (arith, count_is, both_length ns (take n s), length-take-le n s fits)
+  stay_count = omega (arith, tables, both_length ns (take n s), length-take-le n s fits)
 
   pub stay_bytes : bytes ≤ 2 ^ 53
-  stay_bytes = omega (arith, bytes_is, both_size ns (take n s))
+  stay_bytes = omega (arith, weight, both_size ns (take n s))
 
   tested : merge_fits (length s) stay outs ≡ (leb (length outs) (length s - count) && leb (sum_by (λ f. f.size) outs) (2 ^ 53 - bytes))
   tested =
-      ap (λ k. leb (k + length outs) (length s) && leb (size_of stay + sum_by (λ f. f.size) outs) (2 ^ 53)) (sym count_is)
-      ∙ ap (λ k. leb (count + length outs) (length s) && leb (k + sum_by (λ f. f.size) outs) (2 ^ 53)) (sym bytes_is)
+      ap (λ k. leb (k + length outs) (length s) && leb (size_of stay + sum_by (λ f. f.size) outs) (2 ^ 53)) (sym tables)
+      ∙ ap (λ k. leb (count + length outs) (length s) && leb (k + sum_by (λ f. f.size) outs) (2 ^ 53)) (sym weight)
       ∙ ap (λ b. b && leb (bytes + sum_by (λ f. f.size) outs) (2 ^ 53)) (sym (under count (length outs) (length s) stay_count))
       ∙ ap (λ b. leb (length outs) (length s - count) && b) (sym (under bytes (sum_by (λ f. f.size) outs) (2 ^ 53) stay_bytes))
 
@@ -60,9 +53,14 @@ module _ {K : Type 0} (ns : List ℕ) (s : List (Table K)) (n : ℕ) (outs : Lis
   merge_full lt = sym (tested ∙ ap (λ b. b && leb (sum_by (λ f. f.size) outs) (2 ^ 53 - bytes)) (lt-leb (length outs) (length s - count) lt))
 
 -- ---- what a closed job leaves
-module _ {K : Type 0} (cmp : K → K → Ordering) (k : Kind) (ns : List ℕ) (outs : List (Fresh K)) (s : List (Table K)) (n : ℕ) where
-  pub room_merge : k ≡ Merge → (d : ℕ) → merge_fits (length s) (without ns (take n s)) outs ≡ has_room (length s) (closed cmp (job k d ns) outs (take n s))
-  room_merge e d = sym (merge_room cmp (take n s) outs (job k d ns) e (length s))
+-- a move or a drop is no merge
+no_merge : (k : Kind) → (k ≡ Move) ⊎ (k ≡ Drop) → k ≡ Merge → ⊥
+no_merge k (inl e) f = let z : ◌≡◌ {A = ℕ} 0 1 = cc in omega arith
+no_merge k (inr e) f = let z : ◌≡◌ {A = ℕ} 0 1 = cc in omega arith
 
-  pub room_else : (k ≡ Move) ⊎ (k ≡ Drop) → n ≤ length s → size_of (take n s) ≤ 2 ^ 53 → (d : ℕ) → true ≡ has_room (length s) (closed cmp (job k d ns) outs (take n s))
-  room_else e fits total d = sym (closed_room cmp (take n s) outs (job k d ns) (no_merge k e) (length s) (omega (arith, length-take-le n s fits)) total)
+module _ {K : Type 0} (cmp : K → K → Ordering) (j : Running) (outs : List (Fresh K)) (s : List (Table K)) (n : ℕ) where
+  pub room_merge : j.kind ≡ Merge → merge_fits (length s) (without j.numbers (take n s)) outs ≡ has_room (length s) (closed cmp j outs (take n s))
+  room_merge e = sym (merge_room cmp (take n s) outs j e (length s))
+
+  pub room_else : (j.kind ≡ Move) ⊎ (j.kind ≡ Drop) → n ≤ length s → size_of (take n s) ≤ 2 ^ 53 → true ≡ has_room (length s) (closed cmp j outs (take n s))
+  room_else e fits total = sym (closed_room cmp (take n s) outs j (no_merge j.kind e) (length s) (omega (arith, length-take-le n s fits)) total)

@@ -1,35 +1,32 @@
 -- A job closed in the lent sheet.
-use Rattle.std.specs.Prelude.{◌≡◌, ℕ, ◌+◌, ◌^◌, Bool, ◌&&◌, List, length, Some, None, Ok, Err, sum_by, Option, Result, nat_le}
+use Rattle.std.specs.Prelude.{◌≡◌, ℕ, ◌+◌, ◌^◌, Bool, ◌&&◌, List, length, Some, Ok, Err, sum_by, Option, Result, nat_le}
 use Rattle.std.specs.declared.cmp.Ordering.{Ordering}
 use Rattle.refusals.specs.declared.refusal.Refusal.{Refusal}
-use Rattle.keys.specs.declared.key_range.KeyRange.{KeyRange}
-use Rattle.keys.specs.KeyRange.{wider}
 use Rattle.runs.specs.declared.fresh.Fresh.{Fresh}
 use Rattle.runs.specs.declared.table.Table.{Table}
 use Rattle.sheets.specs.Level.{size_of}
 use Rattle.sheets.specs.Members.{In}
 use Rattle.sheets.specs.Tables.{without, inserts}
-use Rattle.strategies.specs.declared.choice.Kind.{Kind}
 use Rattle.books.specs.Booked.{Booked}
 use Rattle.books.specs.Close.{arrivals, freed, close_found}
 use Rattle.books.specs.Job.{Running}
 use Rattle.books.specs.State.{State}
+use Rattle.changes.specs.declared.close.RunningJob.{RunningJob}
 use Rattle.changes.specs.Changes.{on_sheet, count_after, said}
 
--- the job of a kind, with a destination and the numbers of its tables
-abbrev pub job : Kind → ℕ → List ℕ → Running
-job kind destination numbers = record { kind = kind; destination = destination; numbers = numbers }
+-- a running job, as the definitions have it, for a destination
+abbrev pub job_to : ℕ → RunningJob → Running
+job_to destination r = record { kind = r.kind; destination = destination; numbers = r.numbers.now }
+
+-- a running job, as the definitions have it
+abbrev pub job : RunningJob → Running
+job r = job_to r.destination r
 
 -- the tables that stay and the outputs fit the sheet, and their sizes together are at most 2^53
 abbrev pub merge_fits : {K : Type 0} → ℕ → List (Table K) → List (Fresh K) → Bool
 merge_fits room stay outs = nat_le (length stay + length outs) room && nat_le (size_of stay + sum_by (λ f. f.size) outs) (2 ^ 53)
 
 module _ {K : Type 0} (cmp : K → K → Ordering) where
-  -- the span of some tables and one more range
-  abbrev pub grown : Option (KeyRange K) → KeyRange K → KeyRange K
-  grown None range = range
-  grown (Some span) range = wider cmp span range
-
   -- a job's tables left and what it brings in came, each in its place; level 0's runs are not counted anew yet
   abbrev pub swapped : Running → List (Fresh K) → List (Table K) → List (Table K)
   swapped j outs ts = inserts cmp (without j.numbers ts) (arrivals j.kind j.destination j.numbers outs ts)

@@ -1,19 +1,17 @@
 //! Landing a table in the lent sheet. What is public here serves the job book, which has tested that book and sheet are sound: hence the `requires`.
-ghost use Rattle.std.specs.Prelude.{◌≡◌, ◌^◌, ◌<◌, ◌≤◌, map, length, take, is_ok, if◌then◌else◌};
+ghost use Rattle.std.specs.Prelude.{◌≡◌, ◌^◌, ◌<◌, ◌≤◌, length, take, is_ok, if◌then◌else◌};
+ghost use Rattle.std.specs.List.{list_any};
 ghost use Rattle.sheets.specs.Edits.{laid};
 ghost use Rattle.sheets.specs.Level.{size_of, runs, Stacked};
-ghost use Rattle.sheets.specs.Members.{some};
-ghost use Rattle.sheets.specs.Tables.{memb};
 ghost use Rattle.books.specs.Land.{has_room, fresh_ok, bars, landing_run, landed};
 ghost use Rattle.changes.specs.Changes.{SoundOn};
 ghost use Rattle.changes.specs.Land.{admitted, Lands};
 
 use edits::order::insert;
-use edits::settling::table_of;
+use edits::records::has_number;
 use keys::key_kind::KeyKind;
 use refusals::refusal::Refusal;
 use runs::fresh::Fresh;
-use runs::ranged::TableFile;
 use runs::table::Table;
 use sheets::level::{run_count, size};
 use sheets::sound::MOST_BYTES;
@@ -30,7 +28,7 @@ pub fn land_table<K: KeyKind>(
     ensures sheet { sheet.new ≡ (if is_ok result then laid (landed K.ranks fresh.now (take standing sheet.old)) sheet.old else sheet.old) }
 {
     let run = admit(sheet, standing, fresh)?;
-    insert(sheet, standing, table_of(fresh, 0, run));
+    insert(sheet, standing, fresh.at(0, run));
     Ok(standing + 1)
 }
 
@@ -39,7 +37,7 @@ fn admit<K: KeyKind>(sheet: &[Table<K>], standing: usize, fresh: &Fresh<K>) -> R
     requires { SoundOn K.ranks sheet.now standing }
     ensures { result ≡ admitted K.ranks fresh.now (length sheet.now) (take standing sheet.now) }
 {
-    let tables = &sheet[0..standing];
+    let tables = &sheet[..standing];
     if !is_fresh_ok(tables, fresh) {
         return Err(Refusal::BadTable(0));
     }
@@ -53,22 +51,10 @@ fn admit<K: KeyKind>(sheet: &[Table<K>], standing: usize, fresh: &Fresh<K>) -> R
 pub fn is_fresh_ok<K: KeyKind>(tables: &[Table<K>], fresh: &Fresh<K>) -> bool
     ensures { result ≡ fresh_ok K.ranks tables.now fresh.now }
 {
-    if fresh.range.max.compare(&fresh.range.min).is_lt() {
-        return false;
-    }
-    fresh.size <= MOST_BYTES && fresh.linked <= MOST_BYTES && !has_number(tables, fresh.number)
-}
-
-/// Whether one of the tables has the number.
-pub fn has_number<T: TableFile>(tables: &[T], number: u64) -> bool
-    ensures { result ≡ memb number (map T.named tables.now) }
-{
-    for t in tables {
-        if t.id() == number {
-            return true;
-        }
-    }
-    false
+    !fresh.range.max.compare(&fresh.range.min).is_lt()
+        && fresh.size <= MOST_BYTES
+        && fresh.linked <= MOST_BYTES
+        && !has_number(tables, fresh.number)
 }
 
 /// Whether the sheet has a place, and the total is not too large, with the fresh table landed.
@@ -77,7 +63,7 @@ pub fn has_room_to_land<K: KeyKind>(sheet: &[Table<K>], standing: usize, fresh: 
     requires total { size_of (take standing sheet.now) ≤ 2 ^ 53 }
     ensures { result ≡ has_room (length sheet.now) (landed K.ranks fresh.now (take standing sheet.now)) }
 {
-    standing < sheet.len() && fresh.size <= MOST_BYTES - size(&sheet[0..standing])
+    standing < sheet.len() && fresh.size <= MOST_BYTES - size(&sheet[..standing])
 }
 
 /// The run of level 0 that takes the fresh table: the last if it meets nothing there, else a new one behind it; run 0 on an empty level 0.
@@ -97,14 +83,9 @@ pub fn landing_run<K: KeyKind>(tables: &[Table<K>], fresh: &Fresh<K>) -> u16
 
 // Whether a table of the last of so many runs of level 0 meets the fresh one.
 fn is_barred<K: KeyKind>(tables: &[Table<K>], fresh: &Fresh<K>, runs: usize) -> bool
-    ensures { result ≡ some (bars K.ranks fresh.now runs) tables.now }
+    ensures { result ≡ list_any (bars K.ranks fresh.now runs) tables.now }
 {
-    for t in tables {
-        if is_bar(t, fresh, runs) {
-            return true;
-        }
-    }
-    false
+    tables.iter().any(|t| is_bar(t, fresh, runs))
 }
 
 // Whether the table is of the last of so many runs of level 0, and meets the fresh one.

@@ -1,4 +1,4 @@
 pub mod Apart
 pub mod Holding
-pub mod Loops
 pub mod Running
+pub mod Tests

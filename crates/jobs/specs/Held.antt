@@ -1,8 +1,8 @@
 -- Words for the tables of a job among those that stand.
-use Rattle.std.specs.Prelude.{ℕ, Bool, cond, not, ◌||◌, List, [], ◌∷◌, Some, None, Option, ◌==◌}
+use Rattle.std.specs.Prelude.{ℕ, Bool, cond, not, ◌||◌, List, [], ◌∷◌, Option, ◌==◌}
 use Rattle.std.specs.declared.cmp.Ordering.{Ordering}
 use Rattle.keys.specs.declared.key_range.KeyRange.{KeyRange}
-use Rattle.keys.specs.KeyRange.{meets, wider}
+use Rattle.keys.specs.KeyRange.{meets}
 use Rattle.runs.specs.declared.table.Table.{Table}
 use Rattle.picks.specs.Movable.{meets_span}
 use Rattle.sheets.specs.Tables.{named}
@@ -15,11 +15,6 @@ marked (m ∷ ms) [] = []
 marked (m ∷ ms) (x ∷ xs) = cond m (x ∷ marked ms xs) (marked ms xs)
 
 module _ {K : Type 0} (cmp : K → K → Ordering) where
-  -- the span of a span, if any, and a range
-  abbrev pub grown : Option (KeyRange K) → KeyRange K → Option (KeyRange K)
-  grown None range = Some range
-  grown (Some span) range = Some (wider cmp span range)
-
   -- outside the level, of these numbers, or clear of the span
   abbrev pub clear_by : ℕ → List ℕ → Option (KeyRange K) → Table K → Bool
   clear_by level numbers span u = not (u.level == level) || (named numbers u || not (meets_span cmp (λ t. t.range) span u))

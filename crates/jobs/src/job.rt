@@ -4,6 +4,7 @@ ghost use Rattle.std.specs.Prelude.{◌≤◌};
 pub mod ops;
 
 /// What a slot runs. A move or a merge has the level that takes its tables.
+/// `Free` stands beside the others, so that a slot matches its own state and the event together.
 #[derive(Clone, Copy)]
 pub enum State {
     Free,
@@ -35,6 +36,7 @@ pub enum Effect {
 }
 
 /// A slot of the book. A running job has the numbers of its tables.
+/// They lie in the slot itself: the book's memory is fixed, and no heap is used.
 #[derive(Clone, Copy)]
 pub struct Job {
     state: State,

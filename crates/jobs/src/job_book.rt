@@ -5,7 +5,7 @@ ghost use Rattle.jobs.specs.Open.{opened, open_book};
 ghost use Rattle.jobs.specs.View.{state};
 
 use crate::job::Job;
-use crate::sound::{MOST_JOBS, are_sound};
+use crate::sound::{BookTest, MOST_JOBS};
 use keys::key_kind::KeyKind;
 use refusals::refusal::Refusal;
 use runs::table::Table;
@@ -18,7 +18,7 @@ pub struct JobBook {
     standing: usize,
     blob_total: u64,
     hidden: HiddenSet,
-    jobs: [Job; 8],
+    jobs: [Job; MOST_JOBS],
 }
 
 impl JobBook {
@@ -46,6 +46,11 @@ impl JobBook {
         ensures { result ≡ state_ok K.ranks (state self.now sheet.now) }
     {
         is_sound(sheet, self.standing, self.blob_total)
-            && are_sound(&sheet[0..self.standing], &self.hidden, &self.jobs)
+            && BookTest {
+                tables: &sheet[..self.standing],
+                hidden_set: &self.hidden,
+                jobs: &self.jobs,
+            }
+            .is_passed()
     }
 }

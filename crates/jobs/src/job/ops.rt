@@ -23,10 +23,7 @@ impl Job {
     pub fn is_free(&self) -> bool
         ensures { result ≡ not (is_some (slot self.now)) }
     {
-        match self.state {
-            State::Free => true,
-            _ => false,
-        }
+        matches!(self.state, State::Free)
     }
 
     /// The numbers of the job's tables, none for a free slot.
@@ -35,7 +32,7 @@ impl Job {
     {
         match self.state {
             State::Free => &[],
-            _ => &self.numbers[0..self.count],
+            _ => &self.numbers[..self.count],
         }
     }
 
@@ -51,9 +48,8 @@ impl Job {
         ensures { result ≡ level_in (slot self.now) }
     {
         match self.state {
-            State::Move(level) => Some(level),
-            State::Merge(level) => Some(level),
-            _ => None,
+            State::Move(level) | State::Merge(level) => Some(level),
+            State::Free | State::Drop => None,
         }
     }
 
@@ -61,10 +57,7 @@ impl Job {
     pub fn is_known(&self, number: u64) -> bool
         ensures { result ≡ is_known number (slot self.now) }
     {
-        match self.state {
-            State::Free => false,
-            _ => smallest(&self.numbers[0..self.count]) == number,
-        }
+        !self.is_free() && smallest(self.numbers()) == number
     }
 
     /// Starts a job over the tables of these numbers. The book has few enough: hence the `requires`.
@@ -99,12 +92,5 @@ impl Job {
 pub fn smallest(numbers: &[u64]) -> u64
     ensures { result ≡ job_number numbers.now }
 {
-    if numbers.is_empty() {
-        return 0;
-    }
-    let mut least = numbers[0];
-    for i in 1..numbers.len() {
-        least = least.min(numbers[i]);
-    }
-    least
+    numbers.iter().copied().min().unwrap_or(0)
 }

@@ -1,10 +1,9 @@
-use Rattle.std.proofs.Common.{◌<◌, take, sym, subst, arith}
+use Rattle.std.proofs.Common.{◌<◌, take, arith}
 use Rattle.std.proofs.lemmas.List.{length-take-le}
-use Rattle.sheets.specs.Level.{runs, Stacked}
+use Rattle.sheets.specs.Level.{runs}
 use Rattle.sheets.proofs.Ascends.{sound_stacked}
 use Rattle.books.proofs.Rooms.{runs_few}
 use Rattle.changes.proofs.Landings.{admit_bad, admit_full, admit_run}
-use Rattle.changes.proofs.Starts.{from_start}
 use Rattle.changes.proofs.land.admit.Goals as goal
 
 pub has_room_to_land-requires : goal.has_room_to_land-requires
@@ -22,7 +21,7 @@ landing_run-requires g c =
     let n = c.args.standing in
     let sound = c.requires.1 in
     let few : runs (take n s) < 65536 = omega (arith, sound.few, sound.fits, runs_few g.met.K.KeyKind.total sound, length-take-le n s sound.fits) in
-    record { order = subst Stacked (sym (from_start s n)) (sound_stacked g.met.K.KeyKind.total sound); few = subst (λ us. runs us < 65536) (sym (from_start s n)) few }
+    record { order = sound_stacked g.met.K.KeyKind.total sound; few = few }
 
 pub returns : goal.returns
 returns g c =

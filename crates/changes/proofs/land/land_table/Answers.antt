@@ -19,5 +19,5 @@ returns g c =
     let n = c.args.standing in
     let run = c.in_ok-run.run' in
     let h = c.in_ok-run.ensures in
-    let after = land_sheet cmp f s n run h c.insert.new.sheet c.table_of.result c.table_of.ensures c.insert.ensures in
+    let after = land_sheet cmp f s n run h c.insert.new.sheet c.at.result c.at.ensures c.insert.ensures in
     record { answer = land_done cmp f s n run h c.requires.1.fits c.insert.new.sheet c.insert.auto.sheet after; sheet = after }

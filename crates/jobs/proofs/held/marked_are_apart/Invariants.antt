@@ -1,6 +1,9 @@
-use Rattle.std.proofs.Common.{◌≡◌, drop}
+use Rattle.std.proofs.Common.{◌≡◌, length}
 use Rattle.jobs.specs.Held.{marked, unmet}
 use Rattle.jobs.proofs.held.marked_are_apart.Given as goal
 
-abbrev pub invariant-loop-i : goal.invariant-loop-i
-invariant-loop-i g l = unmet g.K.KeyKind.ranks (marked (drop l.i l.marks) (drop l.i l.tables)) ≡ unmet g.K.KeyKind.ranks (marked l.marks l.tables)
+abbrev pub invariant-loop-t : goal.invariant-loop-t
+invariant-loop-t g l = unmet g.K.KeyKind.ranks (marked l.marks l.tables) ≡ unmet g.K.KeyKind.ranks (marked l.fn.marks l.fn.tables)
+
+abbrev pub decreases-loop-t : goal.decreases-loop-t
+decreases-loop-t g l = length l.tables

@@ -1,31 +1,23 @@
-use Rattle.std.proofs.Common.{Bool, filter, ap, ◌∙◌, arith}
+use Rattle.std.proofs.Common.{filter, ap, ◌∙◌, rules, tests}
+use Rattle.std.specs.List.{list_all}
+use Rattle.std.proofs.lemmas.Iterator.{YieldsList-from_slice}
+use Rattle.std.proofs.lemmas.Iterator.Search.{all_from_yields_List}
 use Rattle.runs.specs.Run.{span_of}
 use Rattle.sheets.specs.Tables.{named}
-use Rattle.books.specs.Booked.{jobs_apart}
 use Rattle.jobs.specs.declared.job.Job.{Job}
-use Rattle.jobs.specs.Sound.{free_or_so}
+use Rattle.jobs.specs.Sound.{apart_by}
 use Rattle.jobs.specs.View.{slot}
+use Rattle.jobs.proofs.Apart.{apart_slots}
 use Rattle.jobs.proofs.Holding.{span_slot}
-use Rattle.jobs.proofs.Loops.{all_fails, all_next, all_done}
+use Rattle.jobs.proofs.Tests.{all_same}
 use Rattle.jobs.proofs.sound.is_apart.Goals as goal
-
-pub are_two_apart-requires : goal.are_two_apart-requires
-are_two_apart-requires g c =
-    let cmp = g.K.KeyKind.ranks in
-    let ts = c.args.tables.now in
-    c.span_held-span.ensures ∙ ap (λ ns. span_of cmp (λ t. t.range) (filter (named ns) ts)) c.numbers.ensures ∙ span_slot cmp ts (slot c.args.job.now)
-
-pub returns-then-not-are_two_apart : goal.returns-then-not-are_two_apart
-returns-then-not-are_two_apart g c =
-    let p : Job → Bool = λ other. free_or_so (jobs_apart g.K.KeyKind.ranks c.args.tables.now) (slot c.args.job.now) (slot other) in
-    all_fails p c.args.others.now c.loop-other.other-index c.other-item.result (omega arith) c.other-item.is c.if-not-are_two_apart.ensures c.loop-other.invariant
-
-pub loop-other-preserved : goal.loop-other-preserved
-loop-other-preserved g c =
-    let p : Job → Bool = λ other. free_or_so (jobs_apart g.K.KeyKind.ranks c.args.tables.now) (slot c.args.job.now) (slot other) in
-    all_next p c.args.others.now c.loop-other.other-index c.other-item.result (omega arith) c.other-item.is c.if-not-are_two_apart.ensures c.loop-other.invariant
 
 pub returns : goal.returns
 returns g c =
-    let p : Job → Bool = λ other. free_or_so (jobs_apart g.K.KeyKind.ranks c.args.tables.now) (slot c.args.job.now) (slot other) in
-    all_done p c.args.others.now c.loop-other.other-index (omega arith) c.loop-other.invariant
+    let cmp = g.K.KeyKind.ranks in
+    let ts = c.args.tables.now in
+    let a = slot c.args.job.now in
+    let others = c.args.others.now in
+    let walked = all_from_yields_List (λ (other : Job). apart_by cmp ts c.span_held-span.result a (slot other)) _ _ c.all.result c.all.ensures.ran (YieldsList-from_slice others cc) (λ x b q k. search (rules, tests)) in
+    let span = c.span_held-span.ensures ∙ ap (λ ns. span_of cmp (λ t. t.range) (filter (named ns) ts)) c.numbers.ensures ∙ span_slot cmp ts a in
+    walked ∙ ap (λ s. list_all (λ (other : Job). apart_by cmp ts s a (slot other)) others) span ∙ all_same _ _ (λ other. apart_slots cmp ts a (slot other)) others
