@@ -34,14 +34,6 @@ module _ (tour count : ℕ) (sheet : List (Table StopKey)) (ids : List ℕ) (fit
       cond_above (length sheet) count ids (N.written (of_tour tour) (take count sheet) ids) ids' fits
       (w ∙ (ap (λ c. N.written (λ t. within stop_ranks c t.range) ts ids) bounded ∙ ap (λ us. N.written (of_tour tour) us ids) standing))
 
-  -- refused by naming
-  module _ (e : Refusal) (h : ◌≡◌ {A = Result Named Refusal} (Err e) answer) where
-    pub refused_answer : ◌≡◌ {A = Result Dropped Refusal} (Err e) (dropped tour count sheet (length ids))
-    refused_answer = cond_above (length sheet) count _ _ _ fits (ap (told tour count sheet) (h ∙ same))
-
-    pub refused_sheet : sheet ≡ left tour count sheet (length ids)
-    refused_sheet = cond_above (length sheet) count _ _ _ fits (ap (kept_unless tour count sheet) (h ∙ same))
-
   -- granted, and the first numbers of the id sheet taken out
   module _ (n : Named) (h : ◌≡◌ {A = Result Named Refusal} (Ok n) answer) (ids' : List ℕ) (k : ℕ) (w : ids' ≡ N.written (λ t. within stop_ranks b t.range) ts ids) (front : k ≡ n.count) where
     abbrev gone : List ℕ

@@ -2,7 +2,7 @@
 use Rattle.std.specs.Prelude.{ℕ, Bool, cond, List, length, take, Ok, Err, filter, Result, nat_lt}
 use Rattle.refusals.specs.declared.refusal.Refusal.{Refusal}
 use Rattle.refusals.specs.declared.refusal.Refusal.TheVariants.{NotSound}
-use Rattle.keys.specs.declared.bounds.Bound.TheVariants.{Included}
+use Rattle.std.specs.declared.ops.Bound.TheVariants.{Included}
 use Rattle.keys.specs.declared.bounds.OwnedBounds.{OwnedBounds}
 use Rattle.keys.specs.declared.stop_key.StopKey.{StopKey}
 use Rattle.keys.specs.Bounds.{within}

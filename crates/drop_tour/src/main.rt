@@ -8,17 +8,15 @@ use keys::stop_key::StopKey;
 use runs::table::Table;
 use tour::drop_tour;
 
-// A standing table of one tour's stops, `size` bytes of level 1.
+fn key((tour, stop): (u32, u32)) -> StopKey {
+    StopKey { tour, stop }
+}
+
+// A standing table of `size` bytes of level 1.
 fn table(number: u64, min: (u32, u32), max: (u32, u32), size: u64) -> Table<StopKey> {
     let range = KeyRange {
-        min: StopKey {
-            tour: min.0,
-            stop: min.1,
-        },
-        max: StopKey {
-            tour: max.0,
-            stop: max.1,
-        },
+        min: key(min),
+        max: key(max),
     };
     Table {
         number,
@@ -34,10 +32,10 @@ fn table(number: u64, min: (u32, u32), max: (u32, u32), size: u64) -> Table<Stop
 fn print_standing(rt: &impl Print, tables: &[Table<StopKey>]) -> anyhow::Result<()> {
     for t in tables {
         let (min, max) = (t.range.min, t.range.max);
-        rt.println(format_args!(
+        println!(rt;
             "  table {}: {}:{} to {}:{}, {} bytes",
             t.number, min.tour, min.stop, max.tour, max.stop, t.size
-        ))?;
+        )?;
     }
     Ok(())
 }

@@ -3,10 +3,11 @@ ghost use Rattle.std.specs.Prelude.{◌≡◌, length};
 ghost use Rattle.drop_tour.specs.Tour.{bounds_of, dropped, left, written};
 
 use edits::records::remove_all;
-use keys::bounds::{Bound, OwnedBounds};
+use keys::bounds::OwnedBounds;
 use keys::stop_key::StopKey;
 use refusals::refusal::Refusal;
 use runs::table::Table;
+use std::ops::Bound;
 use strategies::naming::{Named, name_tables};
 
 /// What was named, and how many tables stand after.
@@ -44,12 +45,7 @@ pub fn drop_tour(
     if count > sheet.len() {
         return Err(Refusal::NotSound);
     }
-    match name_tables(&sheet[0..count], &tour_bounds(tour), ids) {
-        Ok(named) => {
-            let gone = named.count;
-            let standing = remove_all(sheet, count, &ids[0..gone]);
-            Ok(Dropped { named, standing })
-        }
-        Err(refusal) => Err(refusal),
-    }
+    let named = name_tables(&sheet[..count], &tour_bounds(tour), ids)?;
+    let standing = remove_all(sheet, count, &ids[..named.count]);
+    Ok(Dropped { named, standing })
 }

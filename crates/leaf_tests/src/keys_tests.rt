@@ -1,9 +1,10 @@
 //! Keys, ranges and bounds.
 use crate::samples::{key, stop, stops};
-use keys::bounds::{Bound, OwnedBounds};
+use keys::bounds::OwnedBounds;
 use keys::byte_key::ByteKey;
 use keys::key_kind::KeyKind;
 use keys::stop_key::StopKey;
+use std::ops::Bound;
 use std::test::Fail;
 
 #[test]

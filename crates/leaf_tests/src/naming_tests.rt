@@ -1,7 +1,8 @@
 //! Which tables an answer names.
 use crate::samples::{standing, stop};
-use keys::bounds::{Bound, OwnedBounds};
+use keys::bounds::OwnedBounds;
 use keys::stop_key::StopKey;
+use std::ops::Bound;
 use std::test::Fail;
 use strategies::naming::name_tables;
 

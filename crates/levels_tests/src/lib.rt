@@ -37,10 +37,7 @@ mod tests {
     }
 
     fn is_bad(settings: Settings) -> bool {
-        match settings.check() {
-            Err(Refusal::BadSetting) => true,
-            _ => false,
-        }
+        settings.check() == Err(Refusal::BadSetting)
     }
 
     #[test]

@@ -1,5 +1,6 @@
 -- What the desk answers, as text.
-use Rattle.std.specs.Prelude.{◌≡◌, ℕ, List, [], ◌∷◌, ◌++◌, Ok, Err, codes, filter, Result}
+use Rattle.std.specs.Prelude.{◌≡◌, ℕ, List, [], ◌++◌, Ok, Err, codes, filter, Result}
+use Rattle.std.specs.List.{flat_map}
 use Rattle.std.specs.declared.cmp.Ordering.{Ordering}
 use Rattle.refusals.specs.declared.refusal.Refusal.{Refusal}
 use Rattle.keys.specs.declared.bounds.OwnedBounds.{OwnedBounds}
@@ -22,8 +23,7 @@ DropAnswer cmp bounds ts places line =
 
 -- a line for each table
 abbrev pub table_lines : {K : Type 0} → (K → List ℕ) → List (Table K) → List ℕ
-table_lines spelt [] = []
-table_lines spelt (t ∷ ts) = table_line spelt t ++ table_lines spelt ts
+table_lines spelt ts = flat_map (table_line spelt) ts
 
 -- the tables, the hidden numbers, and the end
 abbrev pub shown : {K : Type 0} → (K → List ℕ) → List (Table K) → List ℕ

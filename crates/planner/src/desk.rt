@@ -5,9 +5,7 @@ ghost use Rattle.planner.specs.Desk.{DropAnswer, shown, table_lines};
 use keys::bounds::OwnedBounds;
 use keys::byte_key::ByteKey;
 use keys::stop_key::StopKey;
-use reports::report::{
-    write_drop, write_list, write_opened, write_refusal, write_table, write_text,
-};
+use reports::report::{write_drop, write_list, write_opened, write_refusal, write_table};
 use runs::table::Table;
 use scripts::command::{Command, KeyName, Line, Question, Word};
 use scripts::strategy::Strategy;
@@ -20,6 +18,15 @@ use texts::words::Words;
 /// How many places a sheet has unless the script says otherwise.
 const PLACES: usize = 1024;
 
+/// How far a history has come.
+#[derive(Clone, Copy)]
+enum Phase {
+    /// The sheet is filled.
+    Filling,
+    /// The book is open, and is asked.
+    Open,
+}
+
 /// One history: the sheets and the standing tables.
 #[derive(Drop)]
 pub struct History<K> {
@@ -29,7 +36,7 @@ pub struct History<K> {
     id_places: usize,
     /// The standing tables, in sheet order.
     tables: Vec<Table<K>>,
-    is_open: bool,
+    phase: Phase,
 }
 
 impl<K: KeyText> History<K> {
@@ -38,21 +45,23 @@ impl<K: KeyText> History<K> {
             places: PLACES,
             id_places: PLACES,
             tables: Vec::new(heap),
-            is_open: false,
+            phase: Phase::Filling,
         }
     }
 
     // Whether the word may stand here: the sheet is filled before the book is opened, and the book is asked after.
     fn admit(&self, word: Word) -> Result<(), Fault> {
-        let expected = match word {
-            Word::Ids => return Ok(()),
-            Word::Table if !self.is_open && self.tables.len() >= self.places => Expected::Place,
-            Word::Sheet | Word::Table | Word::Open if self.is_open => Expected::NoBook,
-            Word::Sheet | Word::Table | Word::Open => return Ok(()),
-            _ if self.is_open => return Ok(()),
-            _ => Expected::OpenBook,
-        };
-        Err(Fault::Malformed(expected))
+        let is_full = self.tables.len() >= self.places;
+        match (self.phase, word) {
+            (_, Word::Ids) => Ok(()),
+            (Phase::Filling, Word::Table) if is_full => Err(Fault::Malformed(Expected::Place)),
+            (Phase::Filling, Word::Sheet | Word::Table | Word::Open) => Ok(()),
+            (Phase::Filling, _) => Err(Fault::Malformed(Expected::OpenBook)),
+            (Phase::Open, Word::Sheet | Word::Table | Word::Open) => {
+                Err(Fault::Malformed(Expected::NoBook))
+            }
+            (Phase::Open, _) => Ok(()),
+        }
     }
 
     fn answer(
@@ -69,9 +78,12 @@ impl<K: KeyText> History<K> {
                 self.id_places = places;
                 Ok(())
             }
-            Command::Table(table) => self.add_table(table),
+            Command::Table(table) => {
+                self.tables.push(table)?;
+                Ok(())
+            }
             Command::Open(_) => {
-                self.is_open = true;
+                self.phase = Phase::Open;
                 write_opened(out, self.tables.len())
             }
             Command::Propose(question) => self.propose(heap, &question, out),
@@ -85,14 +97,6 @@ impl<K: KeyText> History<K> {
             return Err(Fault::Malformed(Expected::Place));
         }
         self.places = places;
-        Ok(())
-    }
-
-    fn add_table(&mut self, table: Table<K>) -> Result<(), Fault> {
-        if self.tables.len() >= self.places {
-            return Err(Fault::Malformed(Expected::Place));
-        }
-        self.tables.push(table)?;
         Ok(())
     }
 
@@ -111,7 +115,8 @@ impl<K: KeyText> History<K> {
     {
         write_tables(self.tables.as_slice(), out)?;
         write_list(out, "hidden", &[])?;
-        write_text(out, "end\n")
+        out.push_str("end\n")?;
+        Ok(())
     }
 }
 
@@ -119,8 +124,8 @@ impl<K: KeyText> History<K> {
 fn write_tables<K: KeyText>(tables: &[Table<K>], out: &mut String) -> Result<(), Fault>
     ensures { OnOk result (string_bytes out.new ≡ string_bytes out.old ++ table_lines K.KeyText.spelt tables.now) }
 {
-    for i in 0..tables.len() {
-        write_table(out, &tables[i])?;
+    for table in tables {
+        write_table(out, table)?;
     }
     Ok(())
 }
@@ -135,10 +140,7 @@ fn answer_drop<K: KeyText>(
     ensures { OnOk result ((line : List ℕ) × (string_bytes out.new ≡ string_bytes out.old ++ line) × DropAnswer K.ranks bounds.now tables.now (length ids.old) line) }
 {
     match name_tables(tables, bounds, ids) {
-        Ok(named) => {
-            let count = named.count;
-            write_drop(out, named.bytes, &ids[0..count])
-        }
+        Ok(named) => write_drop(out, named.bytes, &ids[..named.count]),
         Err(refusal) => write_refusal(out, refusal),
     }
 }

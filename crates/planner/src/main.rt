@@ -59,11 +59,9 @@ fn main(rt: HostRuntime) -> anyhow::Result<()> {
     let mut at = 0;
     let answered = answer_all(&rt, &mut writer, &mut at);
     writer.flush()?;
-    match answered {
-        Ok(()) => Ok(()),
-        Err(halt) => {
-            eprintln!(rt; "line {at}: {halt}")?;
-            Err(anyhow!("the script was not carried out to its end"))
-        }
+    if let Err(halt) = answered {
+        eprintln!(rt; "line {at}: {halt}")?;
+        return Err(anyhow!("the script was not carried out to its end"));
     }
+    Ok(())
 }

@@ -1,5 +1,6 @@
 -- The lines of the answers.
 use Rattle.std.specs.Prelude.{ℕ, List, [], ◌∷◌, ◌++◌, codes, decimal}
+use Rattle.std.specs.List.{flat_map}
 use Rattle.refusals.specs.declared.refusal.Refusal.{Refusal}
 use Rattle.refusals.specs.Refusal.{number_of, layer_of, place_of, letter_of}
 use Rattle.runs.specs.declared.table.Table.{Table}
@@ -12,8 +13,7 @@ line_of (w ∷ v ∷ ws) = w ++ (32 ∷ line_of (v ∷ ws))
 
 -- each number behind a space
 abbrev pub spaced : List ℕ → List ℕ
-spaced [] = []
-spaced (n ∷ ns) = 32 ∷ (decimal n ++ spaced ns)
+spaced ns = flat_map (λ n. 32 ∷ decimal n) ns
 
 -- some numbers behind a title, as `hidden: 3 4`
 abbrev pub list_line : List ℕ → List ℕ → List ℕ

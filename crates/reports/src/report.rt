@@ -1,21 +1,12 @@
 //! The lines of the answers.
-ghost use Rattle.std.specs.Prelude.{◌≡◌, ℕ, List, [], ◌∷◌, ◌++◌, string_bytes, codes, decimal, OnOk};
-ghost use Rattle.std.proofs.Math.Utf8.{encode};
-ghost use Rattle.reports.specs.Report.{line_of, spaced, list_line, drop_line, opened_line, refused_line, table_line};
+ghost use Rattle.std.specs.Prelude.{◌≡◌, ℕ, List, ◌++◌, Some, string_bytes, OnOk};
+ghost use Rattle.reports.specs.Report.{spaced, list_line, drop_line, opened_line, refused_line, table_line};
 
-use keys::key_range::KeyRange;
 use refusals::refusal::Refusal;
 use runs::table::Table;
+use std::fmt;
 use texts::fault::Fault;
-use texts::key_text::KeyText;
-
-/// Some text behind what is there.
-pub fn write_text(out: &mut String, text: &str) -> Result<(), Fault>
-    ensures { OnOk result (string_bytes out.new ≡ string_bytes out.old ++ text.now) }
-{
-    out.push_str(text)?;
-    Ok(())
-}
+use texts::key_text::{KeyText, Spelt};
 
 // A refusal in plain words.
 fn words(refusal: Refusal) -> &'static str {
@@ -37,60 +28,41 @@ fn words(refusal: Refusal) -> &'static str {
     }
 }
 
-// The words of a refusal's line.
-fn write_refused(
-    out: &mut String,
-    number: u8,
-    letter: char,
-    place: usize,
-    words: &str,
-) -> Result<(), Fault>
-    ensures { OnOk result (string_bytes out.new ≡ string_bytes out.old ++ line_of (codes "refused" ∷ decimal number ∷ encode letter ∷ decimal place ∷ words.now ∷ [])) }
-{
-    writeln!(out, "refused {number} {letter} {place} {words}")?;
-    Ok(())
-}
-
 /// The line of a refusal.
 pub fn write_refusal(out: &mut String, refusal: Refusal) -> Result<(), Fault>
     ensures { OnOk result ((words : List ℕ) × (string_bytes out.new ≡ string_bytes out.old ++ refused_line refusal words)) }
 {
-    let letter = refusal.layer().letter();
-    write_refused(
+    writeln!(
         out,
+        "refused {} {} {} {}",
         refusal.number(),
-        letter,
+        refusal.layer().letter(),
         refusal.place(),
-        words(refusal),
-    )
-}
-
-// A number behind a space.
-fn write_number(out: &mut String, number: u64) -> Result<(), Fault>
-    ensures { OnOk result (string_bytes out.new ≡ string_bytes out.old ++ (32 ∷ decimal number)) }
-{
-    write!(out, " {number}")?;
+        words(refusal)
+    )?;
     Ok(())
 }
 
 // Each number behind a space.
-fn write_numbers(out: &mut String, numbers: &[u64]) -> Result<(), Fault>
-    ensures { OnOk result (string_bytes out.new ≡ string_bytes out.old ++ spaced numbers.now) }
-{
-    for i in 0..numbers.len() {
-        write_number(out, numbers[i])?;
+#[derive(Drop)]
+struct Spaced<'a>(&'a [u64]);
+
+impl fmt::Display for Spaced<'_> {
+    ghost output = { λ numbers. Some (spaced numbers.0.now) };
+
+    fn fmt<W: fmt::Write>(&self, f: &mut fmt::Formatter<W>) -> fmt::Result {
+        for number in self.0 {
+            write!(f, " {number}")?;
+        }
+        Ok(())
     }
-    Ok(())
 }
 
 /// A line of numbers behind a title.
 pub fn write_list(out: &mut String, title: &str, numbers: &[u64]) -> Result<(), Fault>
     ensures { OnOk result (string_bytes out.new ≡ string_bytes out.old ++ list_line title.now numbers.now) }
 {
-    write_text(out, title)?;
-    write_text(out, ":")?;
-    write_numbers(out, numbers)?;
-    write_text(out, "\n")?;
+    writeln!(out, "{title}:{}", Spaced(numbers))?;
     Ok(())
 }
 
@@ -98,9 +70,8 @@ pub fn write_list(out: &mut String, title: &str, numbers: &[u64]) -> Result<(), 
 pub fn write_drop(out: &mut String, bytes: u64, numbers: &[u64]) -> Result<(), Fault>
     ensures { OnOk result (string_bytes out.new ≡ string_bytes out.old ++ drop_line bytes numbers.now) }
 {
-    write_text(out, "drop bytes")?;
-    write_number(out, bytes)?;
-    write_list(out, "", numbers)
+    writeln!(out, "drop bytes {bytes}:{}", Spaced(numbers))?;
+    Ok(())
 }
 
 /// The line of a book that was opened on some tables.
@@ -111,29 +82,15 @@ pub fn write_opened(out: &mut String, count: usize) -> Result<(), Fault>
     Ok(())
 }
 
-// A range behind a space.
-fn write_range<K: KeyText>(out: &mut String, range: &KeyRange<K>) -> Result<(), Fault>
-    ensures { OnOk result (string_bytes out.new ≡ string_bytes out.old ++ (32 ∷ (K.spelt range.now.min ++ (32 ∷ K.spelt range.now.max)))) }
-{
-    write_text(out, " ")?;
-    range.min.write_key(out)?;
-    write_text(out, " ")?;
-    range.max.write_key(out)?;
-    Ok(())
-}
-
 /// The line of a table.
 pub fn write_table<K: KeyText>(out: &mut String, table: &Table<K>) -> Result<(), Fault>
     ensures { OnOk result (string_bytes out.new ≡ string_bytes out.old ++ table_line K.spelt table.now) }
 {
-    write_text(out, "table")?;
-    write_number(out, table.number)?;
-    write_number(out, table.level as u64)?;
-    write_number(out, table.run as u64)?;
-    write_range(out, &table.range)?;
-    write_number(out, table.size)?;
-    write_number(out, table.created)?;
-    write_number(out, table.linked)?;
-    write_text(out, "\n")?;
+    let (min, max) = (Spelt(&table.range.min), Spelt(&table.range.max));
+    writeln!(
+        out,
+        "table {} {} {} {min} {max} {} {} {}",
+        table.number, table.level, table.run, table.size, table.created, table.linked
+    )?;
     Ok(())
 }

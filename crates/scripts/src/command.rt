@@ -1,13 +1,12 @@
 //! The lines of a script.
-ghost use Rattle.std.specs.Prelude.{◌≡◌, MatchOption, ◌≢◌};
-ghost use Rattle.scripts.specs.declared.command.Word.{Word};
-ghost use Rattle.scripts.specs.Command.{name_of};
+ghost use Rattle.scripts.specs.Command.{name_of, key_name_of, ReadsName};
 
 use crate::strategy::Strategy;
 use keys::key_range::KeyRange;
 use runs::fresh::Fresh;
 use runs::table::Table;
 use std::alloc::Global;
+use std::str::FromStr;
 use texts::fault::{Expected, Fault};
 use texts::field::Field;
 use texts::key_text::KeyText;
@@ -18,6 +17,22 @@ use texts::words::Words;
 pub enum KeyName {
     Stop,
     Bytes,
+}
+
+impl FromStr for KeyName {
+    type Err = Fault;
+
+    ghost use Rattle.texts.specs.declared.fault.Expected.TheVariants.{KeyName};
+
+    ghost from_str_gives = { ReadsName key_name_of KeyName };
+
+    fn from_str(text: &str) -> Result<KeyName, Fault> {
+        match text {
+            "stop" => Ok(KeyName::Stop),
+            "bytes" => Ok(KeyName::Bytes),
+            _ => Err(Fault::Malformed(Expected::KeyName)),
+        }
+    }
 }
 
 /// The first word of a line, but for `keys`.
@@ -37,25 +52,28 @@ pub enum Word {
     Show,
 }
 
-impl Word {
-    /// The word that a text spells, if any.
-    pub fn read(text: &str) -> Option<Word>
-        ensures { MatchOption result ((word : Word) → text.now ≢ name_of word) (λ word. text.now ≡ name_of word) }
-    {
+impl FromStr for Word {
+    type Err = Fault;
+
+    ghost use Rattle.texts.specs.declared.fault.Expected.TheVariants.{Word};
+
+    ghost from_str_gives = { ReadsName name_of Word };
+
+    fn from_str(text: &str) -> Result<Word, Fault> {
         match text {
-            "sheet" => Some(Word::Sheet),
-            "ids" => Some(Word::Ids),
-            "table" => Some(Word::Table),
-            "open" => Some(Word::Open),
-            "land" => Some(Word::Land),
-            "propose" => Some(Word::Propose),
-            "look-ahead" => Some(Word::LookAhead),
-            "book" => Some(Word::Book),
-            "output" => Some(Word::Output),
-            "close" => Some(Word::Close),
-            "give-up" => Some(Word::GiveUp),
-            "show" => Some(Word::Show),
-            _ => None,
+            "sheet" => Ok(Word::Sheet),
+            "ids" => Ok(Word::Ids),
+            "table" => Ok(Word::Table),
+            "open" => Ok(Word::Open),
+            "land" => Ok(Word::Land),
+            "propose" => Ok(Word::Propose),
+            "look-ahead" => Ok(Word::LookAhead),
+            "book" => Ok(Word::Book),
+            "output" => Ok(Word::Output),
+            "close" => Ok(Word::Close),
+            "give-up" => Ok(Word::GiveUp),
+            "show" => Ok(Word::Show),
+            _ => Err(Fault::Malformed(Expected::Word)),
         }
     }
 }
@@ -75,26 +93,15 @@ impl<'a> Line<'a> {
     /// Reads the first word of a line.
     pub fn read(text: &'a str) -> Result<Line<'a>, Fault> {
         let mut words = Words::new(text);
-        let Some(first) = words.word() else {
-            return Ok(Line::Blank);
-        };
-        if first == "keys" {
-            let name = key_name(words.expect(Expected::KeyName)?)?;
-            words.end()?;
-            return Ok(Line::Keys(name));
+        match words.next() {
+            None => Ok(Line::Blank),
+            Some("keys") => {
+                let name = words.expect(Expected::KeyName)?.parse()?;
+                words.end()?;
+                Ok(Line::Keys(name))
+            }
+            Some(first) => Ok(Line::Call(first.parse()?, words)),
         }
-        match Word::read(first) {
-            Some(word) => Ok(Line::Call(word, words)),
-            None => Err(Fault::Malformed(Expected::Word)),
-        }
-    }
-}
-
-fn key_name(text: &str) -> Result<KeyName, Fault> {
-    match text {
-        "stop" => Ok(KeyName::Stop),
-        "bytes" => Ok(KeyName::Bytes),
-        _ => Err(Fault::Malformed(Expected::KeyName)),
     }
 }
 
@@ -166,17 +173,27 @@ fn read_question<K: KeyText>(heap: Global, words: &mut Words<'_>) -> Result<Ques
     Ok(Question { clock, strategy })
 }
 
-// What stands behind the numbers of a table: its range, its size, when it was created, and its linked bytes.
-#[derive(Clone, Copy)]
-struct Body<K> {
-    range: KeyRange<K>,
-    size: u64,
-    created: u64,
-    linked: u64,
+// A table with no level and no run.
+fn read_fresh<K: KeyText>(heap: Global, words: &mut Words<'_>) -> Result<Fresh<K>, Fault> {
+    let number = words.number(Field::Number)?;
+    read_body(heap, number, words)
 }
 
-// The end of a table's line. A line that is malformed is malformed first, and only then refused.
-fn read_body<K: KeyText>(heap: Global, words: &mut Words<'_>) -> Result<Body<K>, Fault> {
+// A standing table: level and run stand behind its number.
+fn read_table<K: KeyText>(heap: Global, words: &mut Words<'_>) -> Result<Table<K>, Fault> {
+    let number = words.number(Field::Number)?;
+    let level = words.number(Field::Level)? as u8;
+    let run = words.number(Field::Run)? as u16;
+    let body: Fresh<K> = read_body(heap, number, words)?;
+    Ok(body.at(level, run))
+}
+
+// What stands behind the numbers of a table, to the end of its line. A line that is malformed is malformed first, and only then refused.
+fn read_body<K: KeyText>(
+    heap: Global,
+    number: u64,
+    words: &mut Words<'_>,
+) -> Result<Fresh<K>, Fault> {
     let min = K::read_key(heap, words.expect(Expected::Key)?)?;
     let max = K::read_key(heap, words.expect(Expected::Key)?)?;
     let size = words.number(Field::Size)?;
@@ -187,40 +204,11 @@ fn read_body<K: KeyText>(heap: Global, words: &mut Words<'_>) -> Result<Body<K>,
         min: min?,
         max: max?,
     };
-    Ok(Body {
+    Ok(Fresh {
+        number,
         range,
         size,
         created,
         linked,
-    })
-}
-
-// A table with no level and no run.
-fn read_fresh<K: KeyText>(heap: Global, words: &mut Words<'_>) -> Result<Fresh<K>, Fault> {
-    let number = words.number(Field::Number)?;
-    let body = read_body(heap, words)?;
-    Ok(Fresh {
-        number,
-        range: body.range,
-        size: body.size,
-        created: body.created,
-        linked: body.linked,
-    })
-}
-
-// A standing table: level and run stand behind its number.
-fn read_table<K: KeyText>(heap: Global, words: &mut Words<'_>) -> Result<Table<K>, Fault> {
-    let number = words.number(Field::Number)?;
-    let level = words.number(Field::Level)? as u8;
-    let run = words.number(Field::Run)? as u16;
-    let body = read_body(heap, words)?;
-    Ok(Table {
-        number,
-        level,
-        run,
-        range: body.range,
-        size: body.size,
-        created: body.created,
-        linked: body.linked,
     })
 }

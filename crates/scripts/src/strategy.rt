@@ -4,10 +4,11 @@ ghost use Rattle.std.specs.Float.{binary32};
 ghost use Rattle.std.specs.Option.{SomeIff};
 ghost use Rattle.std.specs.Str.Parse.{IsNumeral, digits_value};
 
-use keys::bounds::{Bound, OwnedBounds};
+use keys::bounds::OwnedBounds;
 use refusals::refusal::Refusal;
 use std::alloc::Global;
 use std::num::f32_from_bits_with_nan;
+use std::ops::Bound;
 use texts::fault::{Expected, Fault};
 use texts::field::Field;
 use texts::key_text::KeyText;
@@ -35,16 +36,12 @@ pub enum Strategy<K> {
 fn ratio_bits(digits: &str) -> Option<f32>
     ensures { SomeIff result (IsNumeral 16 digits.now × (length digits.now ≤ 8)) (from_bits binary32 (digits_value 16 digits.now)) }
 {
-    if digits.starts_with('+') {
+    if digits.starts_with('+') || digits.len() > 8 {
         return None;
     }
-    if digits.len() > 8 {
-        return None;
-    }
-    match u32::from_str_radix(digits, 16) {
-        Ok(bits) => Some(f32_from_bits_with_nan(bits)),
-        Err(_) => None,
-    }
+    u32::from_str_radix(digits, 16)
+        .ok()
+        .map(|bits| f32_from_bits_with_nan(bits))
 }
 
 /// A ratio: a decimal, or `0x` and the bits of an f32.
@@ -58,11 +55,8 @@ pub fn ratio(word: &str) -> Option<f32> {
 // Ratios to the end of the line.
 fn ratios(heap: Global, words: &mut Words<'_>) -> Result<Vec<f32>, Fault> {
     let mut ratios = Vec::new(heap);
-    while let Some(word) = words.word() {
-        let Some(x) = ratio(word) else {
-            return Err(Fault::Malformed(Expected::Ratio));
-        };
-        ratios.push(x)?;
+    for word in words {
+        ratios.push(ratio(word).ok_or(Fault::Malformed(Expected::Ratio))?)?;
     }
     Ok(ratios)
 }
@@ -73,16 +67,10 @@ fn read_bound<K: KeyText>(heap: Global, word: &str) -> Result<Result<Bound<K>, R
         return Ok(Ok(Bound::Unbounded));
     }
     if let Some(text) = word.strip_prefix('[') {
-        return match K::read_key(heap, text)? {
-            Ok(key) => Ok(Ok(Bound::Included(key))),
-            Err(refusal) => Ok(Err(refusal)),
-        };
+        return Ok(K::read_key(heap, text)?.map(Bound::Included));
     }
     if let Some(text) = word.strip_prefix('(') {
-        return match K::read_key(heap, text)? {
-            Ok(key) => Ok(Ok(Bound::Excluded(key))),
-            Err(refusal) => Ok(Err(refusal)),
-        };
+        return Ok(K::read_key(heap, text)?.map(Bound::Excluded));
     }
     Err(Fault::Malformed(Expected::Bound))
 }
@@ -132,7 +120,7 @@ impl<K: KeyText> Strategy<K> {
             "leveled" => read_leveled(heap, words),
             "fifo" => read_fifo(words),
             "major" => read_major(words),
-            "drop-range" => Ok(Strategy::DropRange(read_bounds(heap, words)?)),
+            "drop-range" => read_bounds(heap, words).map(Strategy::DropRange),
             _ => Err(Fault::Malformed(Expected::Strategy)),
         }
     }

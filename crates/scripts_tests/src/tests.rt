@@ -3,12 +3,11 @@ use keys::byte_key::ByteKey;
 use keys::stop_key::StopKey;
 use scripts::command::{Command, Line};
 use std::alloc::Global;
-use std::test::Fail;
 use texts::fault::Fault;
 use texts::key_text::KeyText;
 
 // What comes of a line under keys of a kind.
-#[derive(Clone, Copy)]
+#[derive(Clone, Copy, Debug, PartialEq, Eq)]
 enum Outcome {
     Blank,
     Command,
@@ -31,56 +30,62 @@ fn read<K: KeyText + Drop>(heap: Global, text: &str) -> Outcome {
     }
 }
 
-fn is_read(r: Outcome) -> bool {
-    match r {
-        Outcome::Command => true,
-        _ => false,
-    }
-}
-
-fn is_malformed(r: Outcome) -> bool {
-    match r {
-        Outcome::Malformed => true,
-        _ => false,
-    }
-}
-
 #[test]
 fn well_formed(rt: HostRuntime) {
     let heap = rt.alloc();
-    assert!(rt;
-        is_read(read::<StopKey>(
+    assert_eq!(rt;
+        read::<StopKey>(
             heap,
             "table 1 6 65535 0:0 4294967295:4294967295 18446744073709551615 0 0 # all",
-        ))
+        ),
+        Outcome::Command
     );
-    assert!(rt;
-        is_read(read::<StopKey>(heap, "propose 5 leveled 100 256 10.0 0x7fc00000 0x41200000"))
+    assert_eq!(rt;
+        read::<StopKey>(heap, "propose 5 leveled 100 256 10.0 0x7fc00000 0x41200000"),
+        Outcome::Command
     );
-    assert!(rt; is_read(read::<StopKey>(heap, "book 5 fifo 100 0")));
-    assert!(rt; is_read(read::<ByteKey>(heap, "look-ahead 5 drop-range [00Ff (-")));
-    assert!(rt; is_read(read::<ByteKey>(heap, "output 7 - ff 1 2 3")));
+    assert_eq!(rt;
+        read::<StopKey>(heap, "book 5 fifo 100 0"),
+        Outcome::Command
+    );
+    assert_eq!(rt;
+        read::<ByteKey>(heap, "look-ahead 5 drop-range [00Ff (-"),
+        Outcome::Command
+    );
+    assert_eq!(rt;
+        read::<ByteKey>(heap, "output 7 - ff 1 2 3"),
+        Outcome::Command
+    );
 }
 
 #[test]
 fn malformed_lines(rt: HostRuntime) {
     let heap = rt.alloc();
-    assert!(rt; is_malformed(read::<StopKey>(heap, "tables 1")));
-    assert!(rt; is_malformed(read::<StopKey>(heap, "open")));
-    assert!(rt; is_malformed(read::<StopKey>(heap, "open 1 2")));
-    assert!(rt; is_malformed(read::<StopKey>(heap, "open +1")));
-    assert!(rt; is_malformed(read::<StopKey>(heap, "open 18446744073709551616")));
-    assert!(rt; is_malformed(read::<StopKey>(heap, "land 1 0:1 0 3 4 5")));
-    assert!(rt; is_malformed(read::<StopKey>(heap, "propose 1 drop-range 0:1 *")));
-    assert!(rt; is_malformed(read::<ByteKey>(heap, "land 1 abc ff 3 4 5")));
+    assert_eq!(rt; read::<StopKey>(heap, "tables 1"), Outcome::Malformed);
+    assert_eq!(rt; read::<StopKey>(heap, "open"), Outcome::Malformed);
+    assert_eq!(rt; read::<StopKey>(heap, "open 1 2"), Outcome::Malformed);
+    assert_eq!(rt; read::<StopKey>(heap, "open +1"), Outcome::Malformed);
+    assert_eq!(rt;
+        read::<StopKey>(heap, "open 18446744073709551616"),
+        Outcome::Malformed
+    );
+    assert_eq!(rt;
+        read::<StopKey>(heap, "land 1 0:1 0 3 4 5"),
+        Outcome::Malformed
+    );
+    assert_eq!(rt;
+        read::<StopKey>(heap, "propose 1 drop-range 0:1 *"),
+        Outcome::Malformed
+    );
+    assert_eq!(rt;
+        read::<ByteKey>(heap, "land 1 abc ff 3 4 5"),
+        Outcome::Malformed
+    );
 }
 
 #[test]
-fn a_long_key_is_refused(rt: HostRuntime) -> Result<(), Fail> {
+fn a_long_key_is_refused(rt: HostRuntime) {
     let heap = rt.alloc();
     let line = "land 1 - 000102030405060708090a0b0c0d0e0f101112131415161718191a1b1c1d1e1f20 3 4 5";
-    match read::<ByteKey>(heap, line) {
-        Outcome::Refused => Ok(()),
-        _ => Err(Fail::new("not refused")),
-    }
+    assert_eq!(rt; read::<ByteKey>(heap, line), Outcome::Refused);
 }

@@ -1,4 +1,6 @@
-pub mod Comments
+mod Comments
 mod Hexes
 mod Numbers
 mod Stops
+pub mod Options
+mod Readings

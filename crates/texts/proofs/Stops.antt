@@ -1,5 +1,5 @@
 -- A word that is cut at its first colon, and the stop key that it says.
-use Rattle.std.proofs.Common.{◌≡◌, ℕ, ◌-◌, ◌^◌, true, ◌&&◌, ltb, leb, List, length, Some, None, Ok, Option, Result, refl, ap, ◌∙◌, arith, Bor, MatchOption}
+use Rattle.std.proofs.Common.{◌≡◌, ℕ, ◌-◌, ◌^◌, true, ◌&&◌, ltb, leb, List, length, Some, None, Ok, Option, Result, refl, ap, arith, Bor, MatchOption}
 use Rattle.std.specs.Str.Parse.{digits_value}
 use Rattle.std.specs.Str.{all_ascii_digits}
 use Rattle.std.proofs.lemmas.Str.Parse.{not_in_digits}
@@ -10,14 +10,13 @@ use Rattle.refusals.specs.declared.refusal.Refusal.{Refusal}
 use Rattle.keys.specs.declared.stop_key.StopKey.{StopKey}
 use Rattle.texts.specs.KeyText.{StopWord}
 use Rattle.texts.specs.Words.{decimal_of}
-use Rattle.texts.proofs.Hexes.{unlike}
 use Rattle.texts.proofs.Numbers.{own}
 
 all_digits : (most : ℕ) (ds : List ℕ) (n : ℕ) → decimal_of most ds ≡ Some n → all_ascii_digits ds ≡ true
 all_digits most ds n =
     cond_both (all_ascii_digits ds && (ltb 0 (length ds) && leb (digits_value 10 ds) most)) (Some (digits_value 10 ds)) None (λ x. x ≡ Some n → all_ascii_digits ds ≡ true)
     (λ b e. (and_parts (all_ascii_digits ds) (ltb 0 (length ds) && leb (digits_value 10 ds) most) b).0)
-    (λ b e. absurd (let z : ◌≡◌ {A = ℕ} 0 1 = cc in omega arith))
+    (λ b e. cc)
 
 module _ (w : List ℕ) (r : Option (Bor (List ℕ) × Bor (List ℕ))) (cut : IsSplitOnceResult 58 w r) where
   parts : (k : Result StopKey Refusal) (word : StopWord w k) → MatchOption r ⊥ (λ x. (x.0.now ≡ word.before) × (x.1.now ≡ word.after))
@@ -32,12 +31,12 @@ module _ (w : List ℕ) (r : Option (Bor (List ℕ) × Bor (List ℕ))) (cut : I
     pub no_tour : decimal_of (2 ^ 32 - 1) x.0.now ≡ None → (k : Result StopKey Refusal) → StopWord w k → ⊥
     no_tour n k word =
         let p = MatchOption-at_some _ _ x e (parts k word) in
-        unlike _ _ n (ap (decimal_of (2 ^ 32 - 1)) p.0 ∙ word.tour)
+        cc (ap (decimal_of (2 ^ 32 - 1)) p.0, word.tour)
 
     pub no_stop : decimal_of (2 ^ 32 - 1) x.1.now ≡ None → (k : Result StopKey Refusal) → StopWord w k → ⊥
     no_stop n k word =
         let p = MatchOption-at_some _ _ x e (parts k word) in
-        unlike _ _ n (ap (decimal_of (2 ^ 32 - 1)) p.1 ∙ word.stop)
+        cc (ap (decimal_of (2 ^ 32 - 1)) p.1, word.stop)
 
     pub stop_word : (tour stop : ℕ) → decimal_of (2 ^ 32 - 1) x.0.now ≡ Some tour → decimal_of (2 ^ 32 - 1) x.1.now ≡ Some stop → StopWord w (Ok (record { tour = tour; stop = stop }))
     stop_word tour stop p q =

@@ -1,5 +1,6 @@
 -- Bytes as pairs of hex digits.
 use Rattle.std.specs.Prelude.{ℕ, ◌+◌, ◌*◌, ◌/◌, ◌%◌, cond, List, [], ◌∷◌, Some, None, Option, nat_lt}
+use Rattle.std.specs.List.{flat_map}
 use Rattle.std.specs.Char.{digit_value, digit_char}
 
 -- the value of a hex digit, of either case
@@ -25,5 +26,4 @@ bytes_of (c ∷ d ∷ cs) = before (byte_of (digit_of c) (digit_of d)) (bytes_of
 
 -- two hex digits for each byte
 abbrev pub hexed : List ℕ → List ℕ
-hexed [] = []
-hexed (b ∷ bs) = digit_char (b / 16) ∷ digit_char (b % 16) ∷ hexed bs
+hexed bs = flat_map (λ b. digit_char (b / 16) ∷ digit_char (b % 16) ∷ []) bs

@@ -1,6 +1,7 @@
 -- The words of a line, and what a word says as a number.
-use Rattle.std.specs.Prelude.{◌≡◌, ℕ, cond, ◌&&◌, List, [], ◌∷◌, length, Some, None, Option, ◌==◌, nat_le, nat_lt}
+use Rattle.std.specs.Prelude.{◌≡◌, ℕ, cond, ◌&&◌, List, length, Some, None, Option, ◌==◌, nat_le, nat_lt}
 use Rattle.std.specs.Borrow.{Bor}
+use Rattle.std.specs.List.{before_first}
 use Rattle.std.specs.declared.str.SplitWhitespace.{SplitWhitespace}
 use Rattle.std.specs.Str.Iter.{split_whitespace_steps}
 use Rattle.std.specs.Str.Parse.{digits_value}
@@ -13,8 +14,7 @@ decimal_of most ds = cond (all_ascii_digits ds && (nat_lt 0 (length ds) && nat_l
 
 -- a comment begins at the first #
 abbrev pub uncommented : List ℕ → List ℕ
-uncommented [] = []
-uncommented (c ∷ cs) = cond (c == 35) [] (c ∷ uncommented cs)
+uncommented line = before_first (λ c. c == 35) line
 
 -- what is left of a line
 abbrev pub words_rest : Words → SplitWhitespace

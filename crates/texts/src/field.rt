@@ -29,10 +29,10 @@ impl Field {
         ensures { result ≡ most_of self }
     {
         match self {
-            Field::Level => 255,
-            Field::Run => 65_535,
-            Field::Threshold => 4_294_967_295,
-            _ => 18_446_744_073_709_551_615,
+            Field::Level => u8::MAX as u64,
+            Field::Run => u16::MAX as u64,
+            Field::Threshold => u32::MAX as u64,
+            _ => u64::MAX,
         }
     }
 

@@ -1,5 +1,6 @@
 //! How a key stands in a script.
-ghost use Rattle.std.specs.Prelude.{◌≡◌, ℕ, List, ◌++◌, string_bytes, Result, OnOk};
+ghost use Rattle.std.specs.Prelude.{ℕ, List, Some, Result};
+ghost use Rattle.std.specs.Fmt.{WritesOnOk};
 ghost use Rattle.refusals.specs.declared.refusal.Refusal.{Refusal};
 ghost use Rattle.texts.specs.KeyText.{Reading, StopWord, ByteWord, stop_text, byte_text};
 
@@ -11,6 +12,7 @@ use keys::key_kind::KeyKind;
 use keys::stop_key::StopKey;
 use refusals::refusal::Refusal;
 use std::alloc::Global;
+use std::fmt;
 
 /// A key kind that a script can write down.
 pub trait KeyText: KeyKind {
@@ -20,13 +22,25 @@ pub trait KeyText: KeyKind {
     // The text of a key.
     ghost spelt: { Self → List ℕ };
 
-    /// The key that a word says, or its refusal.
+    /// The key that a word says, or its refusal, apart from what is malformed: a line is refused only where the rest of it is well formed.
     fn read_key(heap: Global, word: &str) -> Result<Result<Self, Refusal>, Fault>
         ensures { Reading says word.now result };
 
-    /// Writes the key behind what is there.
-    fn write_key(&self, out: &mut String) -> Result<(), Fault>
-        ensures { OnOk result (string_bytes out.new ≡ string_bytes out.old ++ spelt self.now) };
+    /// Writes the key.
+    fn write_key<W: fmt::Write>(&self, f: &mut fmt::Formatter<W>) -> fmt::Result
+        ensures { WritesOnOk W.write_str_gives f.old result (spelt self.now) f.new };
+}
+
+/// A key that is written as a script spells it.
+#[derive(Drop)]
+pub struct Spelt<'a, K>(pub &'a K);
+
+impl<K: KeyText> fmt::Display for Spelt<'_, K> {
+    ghost output = { λ key. Some (K.spelt key.0.now) };
+
+    fn fmt<W: fmt::Write>(&self, f: &mut fmt::Formatter<W>) -> fmt::Result {
+        self.0.write_key(f)
+    }
 }
 
 impl KeyText for StopKey {
@@ -36,26 +50,18 @@ impl KeyText for StopKey {
 
     fn read_key(_heap: Global, word: &str) -> Result<Result<StopKey, Refusal>, Fault> {
         let malformed = Fault::Malformed(Expected::StopKey);
-        let Some((before, after)) = word.split_once(':') else {
-            return Err(malformed);
-        };
-        let Some(tour) = decimal(before, 4_294_967_295) else {
-            return Err(malformed);
-        };
-        let Some(stop) = decimal(after, 4_294_967_295) else {
-            return Err(malformed);
-        };
+        let (before, after) = word.split_once(':').ok_or(malformed)?;
+        let tour = decimal(before, u32::MAX as u64).ok_or(malformed)?;
+        let stop = decimal(after, u32::MAX as u64).ok_or(malformed)?;
         Ok(Ok(StopKey {
             tour: tour as u32,
             stop: stop as u32,
         }))
     }
 
-    fn write_key(&self, out: &mut String) -> Result<(), Fault> {
-        let tour = self.tour;
-        let stop = self.stop;
-        write!(out, "{tour}:{stop}")?;
-        Ok(())
+    fn write_key<W: fmt::Write>(&self, f: &mut fmt::Formatter<W>) -> fmt::Result {
+        let StopKey { tour, stop } = *self;
+        write!(f, "{tour}:{stop}")
     }
 }
 
@@ -65,26 +71,23 @@ impl KeyText for ByteKey {
     ghost spelt = { byte_text };
 
     fn read_key(heap: Global, word: &str) -> Result<Result<ByteKey, Refusal>, Fault> {
-        if word == "-" {
-            return Ok(ByteKey::new(&[]));
-        }
         let malformed = Fault::Malformed(Expected::ByteKey);
-        if word.is_empty() {
-            return Err(malformed);
-        }
-        match read_hex(heap, word)? {
-            Some(bytes) => Ok(ByteKey::new(bytes.as_slice())),
-            None => Err(malformed),
+        match word {
+            "-" => Ok(ByteKey::new(&[])),
+            "" => Err(malformed),
+            digits => {
+                let bytes = read_hex(heap, digits)?.ok_or(malformed)?;
+                Ok(ByteKey::new(bytes.as_slice()))
+            }
         }
     }
 
-    fn write_key(&self, out: &mut String) -> Result<(), Fault> {
+    fn write_key<W: fmt::Write>(&self, f: &mut fmt::Formatter<W>) -> fmt::Result {
         let bytes = self.as_slice();
         if bytes.is_empty() {
-            out.push('-')?;
+            f.write_str("-")
         } else {
-            write_hex(out, bytes)?;
+            write_hex(f, bytes)
         }
-        Ok(())
     }
 }

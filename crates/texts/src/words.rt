@@ -1,5 +1,6 @@
 //! The words of a line.
-ghost use Rattle.std.specs.Prelude.{◌≡◌, ◌≤◌, IfOk, Some, None, MatchResult};
+ghost use Rattle.std.specs.Prelude.{◌≡◌, ◌≤◌, IfOk, Some, None, MatchResult, length};
+ghost use Rattle.std.specs.Iterator.{at_most};
 ghost use Rattle.std.specs.Str.Iter.{split_whitespace_rest, split_whitespace_steps};
 ghost use Rattle.texts.specs.declared.fault.Expected.TheVariants.{End, Number};
 ghost use Rattle.texts.specs.declared.fault.Fault.TheVariants.{Malformed};
@@ -23,19 +24,26 @@ pub(crate) fn decimal(word: &str, most: u64) -> Option<u64>
     if word.starts_with('+') {
         return None;
     }
-    let Ok(n) = word.parse::<u64>() else {
-        return None;
-    };
-    if n <= most { Some(n) } else { None }
+    word.parse::<u64>().ok().filter(|n| *n <= most)
 }
 
 // A line up to its comment.
 fn uncomment(line: &str) -> &str
     ensures { result.now ≡ uncommented line.now }
 {
-    match line.split_once('#') {
-        Some((before, _)) => before,
-        None => line,
+    line.split_once('#').map_or(line, |(before, _)| before)
+}
+
+impl<'a> Iterator for Words<'a> {
+    type Item = &'a str;
+
+    // The next word, if any.
+    ghost next_gives = { λ before word after. split_whitespace_steps (words_rest before) word (words_rest after) };
+
+    ghost remaining = { λ words. at_most (length (split_whitespace_rest (words_rest words))) };
+
+    fn next(&mut self) -> Option<&'a str> {
+        self.rest.next()
     }
 }
 
@@ -49,28 +57,18 @@ impl<'a> Words<'a> {
         }
     }
 
-    /// The next word, if any.
-    pub fn word(&mut self) -> Option<&'a str>
-        ensures { split_whitespace_steps (words_rest self.old) result (words_rest self.new) }
-    {
-        self.rest.next()
-    }
-
     /// The next word, which has to be there.
     pub fn expect(&mut self, expected: Expected) -> Result<&'a str, Fault>
         ensures { MatchResult result (λ word. split_whitespace_steps (words_rest self.old) (Some word) (words_rest self.new)) (λ e. (e ≡ Malformed expected) × split_whitespace_steps (words_rest self.old) None (words_rest self.new)) }
     {
-        match self.word() {
-            Some(word) => Ok(word),
-            None => Err(Fault::Malformed(expected)),
-        }
+        self.next().ok_or(Fault::Malformed(expected))
     }
 
     /// Nothing more on the line.
     pub fn end(&mut self) -> Result<(), Fault>
         ensures { MatchResult result (λ _. split_whitespace_steps (words_rest self.old) None (words_rest self.new)) (λ e. e ≡ Malformed End) }
     {
-        match self.word() {
+        match self.next() {
             Some(_) => Err(Fault::Malformed(Expected::End)),
             None => Ok(()),
         }
@@ -83,9 +81,6 @@ impl<'a> Words<'a> {
     {
         let expected = Expected::Number(field);
         let word = self.expect(expected)?;
-        match decimal(word, field.most()) {
-            Some(n) => Ok(n),
-            None => Err(Fault::Malformed(expected)),
-        }
+        decimal(word, field.most()).ok_or(Fault::Malformed(expected))
     }
 }

@@ -1,7 +1,8 @@
-use Rattle.std.proofs.Common.{◌≡◌, ◌*◌, ◌++◌, drop, vec_items}
+use Rattle.std.proofs.Common.{◌≡◌, ◌++◌, drop, vec_items}
 use Rattle.std.specs.Option.{option_map}
 use Rattle.texts.specs.Hex.{bytes_of}
+use Rattle.texts.proofs.Hexes.{pairs_bytes}
 use Rattle.texts.proofs.hex.read_hex.Given as goal
 
-abbrev pub invariant-loop-i : goal.invariant-loop-i
-invariant-loop-i l = option_map (λ t. vec_items l.bytes ++ t) (bytes_of (drop (2 * l.i) l.text)) ≡ bytes_of l.word
+abbrev pub invariant-loop-high : goal.invariant-loop-high
+invariant-loop-high l = option_map (λ t. vec_items l.bytes ++ t) (pairs_bytes (drop l.high-index l.pairs)) ≡ bytes_of l.word

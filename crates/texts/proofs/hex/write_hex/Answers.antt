@@ -1,22 +1,15 @@
-use Rattle.std.proofs.Common.{◌++◌, is_ok, string_bytes, sym, ap, ◌∙◌, append-nil, arith}
-use Rattle.std.proofs.ResultArms.{chosen}
-use Rattle.std.proofs.lemmas.List.{drop_all}
-use Rattle.texts.specs.Hex.{hexed}
+use Rattle.std.proofs.Common.{◌≡◌, ◌/◌, ◌%◌, ◌∷◌, [], get_or, Some, false, rules, ap, subst}
+use Rattle.std.specs.Char.{digit_char}
+use Rattle.std.specs.Fmt.{DisplaysOnOk, styled_digits_output}
+use Rattle.std.proofs.Output.{has_written_append, has_written_of_eq}
+use Rattle.std.proofs.lemmas.Fmt.{hex_byte}
 use Rattle.texts.proofs.Hexes.{hexed_more}
 use Rattle.texts.proofs.hex.write_hex.Goals as goal
 
-pub loop-i-preserved : goal.loop-i-preserved
-loop-i-preserved c =
-    let first = chosen _ _ _ _ c.push.ensures.bytes (ap is_ok c.in_ok-push.was) in
-    let next = chosen _ _ _ _ c.push-in-loop-i.ensures.bytes (ap is_ok c.in_ok-push-2.was) in
-    let high = c.digit_char.ensures in
-    let low = c.digit_char-in-loop-i.ensures in
-    hexed_more _ _ _ _ _ _ _ _ c.args.bytes.now c.loop-i.i (omega arith)
-    first (c.push.ensures.ascii high.ascii) high.value
-    next (c.push-in-loop-i.ensures.ascii low.ascii) low.value
-    c.loop-i.invariant
-
-pub returns : goal.returns
-returns c =
-    let end = drop_all c.loop-i.i c.args.bytes.now (omega arith) in
-    sym (append-nil (string_bytes c.loop-i.out)) ∙ sym (ap (λ xs. string_bytes c.loop-i.out ++ hexed xs) end) ∙ c.loop-i.invariant
+pub loop-byte-preserved : goal.loop-byte-preserved
+loop-byte-preserved g c = λ p.
+    let byte = get_or c.args.bytes.now c.loop-byte.byte-index 0 in
+    let read : styled_digits_output c.in_radix.result c.laid_out.result ≡ Some (digit_char (byte / 16) ∷ digit_char (byte % 16) ∷ []) = rw (c.laid_out.ensures, c.in_radix.ensures) (ap Some (hex_byte false byte (c.type_inv.bytes c.loop-byte.byte-index).fits)) in
+    let writes = subst (λ o. DisplaysOnOk g.W.Write.write_str_gives c.loop-byte.f c.write.result o c.write.new.self) read c.write.ensures.writes in
+    has_written_of_eq _ _ _ _ _ (hexed_more c.args.bytes.now c.loop-byte.byte-index c.loop-byte-test.true)
+    (has_written_append _ _ _ _ _ _ (c.loop-byte.invariant p) (writes (c.loop-byte.invariant p).plain (search rules)))
