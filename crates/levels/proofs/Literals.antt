@@ -4,10 +4,6 @@ use lib.Ieee.{binary32, binary64, of_bits, of_int, round}
 use Rattle.levels.specs.Rounding.{single}
 use Rattle.levels.specs.Scores.{double, none, forced}
 
-pub zero_is : of_bits binary32 0 ≡ single 0
-unfolding of_bits of_int
-zero_is = refl
-
 pub one_is : of_bits binary32 0x3f80_0000 ≡ single 1
 unfolding of_bits of_int
 one_is = refl

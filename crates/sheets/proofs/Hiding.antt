@@ -6,9 +6,6 @@ use Rattle.sheets.specs.HiddenSet.{hidden, hiding, showing}
 use Rattle.sheets.specs.Tables.{memb}
 use Rattle.sheets.specs.declared.hidden_set.HiddenSet.{HiddenSet}
 
-pub hidden_few : (set : HiddenSet) → length (hidden set) ≤ 1024
-hidden_few set = omega (arith, length-take set.count set.ids, set.few)
-
 module _ (hs xs : List ℕ) (i : ℕ) (within : i < length xs) where
   pub hiding_old : memb (get_or xs i 0) hs ≡ true → hiding hs (drop i xs) ≡ hiding hs (drop (i + 1) xs)
   hiding_old e = at_drop_more (hiding hs) xs i 0 within ∙ ap (λ b. hiding (cond b hs (hs ++ get_or xs i 0 ∷ [])) (drop (i + 1) xs)) e

@@ -14,14 +14,6 @@ pub own : IsNumeralModel (λ ds. all_ascii_digits ds ≡ true) (digits_value 10)
 own = numerals_by_value _ tells_all_ascii_digits
 
 module _ {E : Type 0} (bs : List ℕ) (r : Result ℕ E) (h : ParsesUnsigned 64 10 bs r) (plain : get_or bs 0 0 ≡ 43 → ⊥) (most : ℕ) where
-  pub number_some : (n : ℕ) → r ≡ Ok n → n ≤ most → Some n ≡ decimal_of most bs
-  number_some n e l =
-      let p = OkIff-at_ok r _ _ n (parse_plain own 64 bs r h plain) e in
-      let q = p.0.0 in
-      let s = p.0.1 in
-      let t = p.1 in
-      grind (arith, nat_tests)
-
   pub number_none : (d : E) → r ≡ Err d → most < 2 ^ 64 → None ≡ decimal_of most bs
   number_none d e l =
       let p = OkIff-at_err r _ _ d (parse_plain own 64 bs r h plain) e in
