@@ -4,3 +4,4 @@ pub mod KeyKind
 pub mod KeyRange
 pub mod Pairing
 pub mod StopKey
+pub mod Stored

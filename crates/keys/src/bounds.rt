@@ -27,7 +27,7 @@ impl<K: KeyKind> OwnedBounds<K> {
     {
         match &self.start {
             Bound::Unbounded => true,
-            Bound::Included(first) => !key.compare(first).is_lt(),
+            Bound::Included(first) => key.compare(first).is_ge(),
             Bound::Excluded(before) => before.compare(key).is_lt(),
         }
     }
@@ -38,7 +38,7 @@ impl<K: KeyKind> OwnedBounds<K> {
     {
         match &self.end {
             Bound::Unbounded => true,
-            Bound::Included(last) => !last.compare(key).is_lt(),
+            Bound::Included(last) => last.compare(key).is_ge(),
             Bound::Excluded(behind) => key.compare(behind).is_lt(),
         }
     }

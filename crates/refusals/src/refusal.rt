@@ -2,6 +2,9 @@
 ghost use Rattle.std.specs.Prelude.{◌≡◌};
 ghost use Rattle.refusals.specs.Refusal.{number_of, layer_of, place_of, letter_of};
 
+/// The most bytes of a byte key.
+pub const LONGEST_KEY: usize = 32;
+
 /// Why a call was refused. A case with a number has the place at fault.
 #[derive(Clone, Copy, PartialEq, Eq, Debug)]
 pub enum Refusal {
@@ -106,7 +109,7 @@ impl Refusal {
             | Refusal::BadOutputs(at)
             | Refusal::HiddenTable(at)
             | Refusal::AlreadyHidden(at) => at,
-            Refusal::KeyTooLong => 32,
+            Refusal::KeyTooLong => LONGEST_KEY,
             _ => 0,
         }
     }

@@ -2,3 +2,4 @@ pub mod Alike
 pub mod Falls
 pub mod Sorteds
 pub mod Spans
+mod Totals

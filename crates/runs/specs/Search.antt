@@ -27,19 +27,19 @@ reaches cmp UpTo key x = not (is_lt (cmp key x))
 abbrev pub passed : {K T : Type 0} → (K → K → Ordering) → (T → KeyRange K) → End → Reach → K → T → Bool
 passed cmp spans end reach key t = reaches cmp reach key (end_of end (spans t))
 
-module _ {K T : Type 0} (cmp : K → K → Ordering) (spans : T → KeyRange K) (key : K) (t : T) where
+module _ {K T : Type 0} (cmp : K → K → Ordering) (spans : T → KeyRange K) where
   -- a table ends before the key
-  abbrev pub ends_before : Bool
-  ends_before = is_lt (cmp (spans t).max key)
+  abbrev pub ends_before : K → T → Bool
+  ends_before = passed cmp spans Max Before
 
   -- a table ends with the key or before
-  abbrev pub ends_by : Bool
-  ends_by = not (is_lt (cmp key (spans t).max))
+  abbrev pub ends_by : K → T → Bool
+  ends_by = passed cmp spans Max UpTo
 
   -- a table begins before the key
-  abbrev pub begins_before : Bool
-  begins_before = is_lt (cmp (spans t).min key)
+  abbrev pub begins_before : K → T → Bool
+  begins_before = passed cmp spans Min Before
 
   -- a table begins with the key or before
-  abbrev pub begins_by : Bool
-  begins_by = not (is_lt (cmp key (spans t).min))
+  abbrev pub begins_by : K → T → Bool
+  begins_by = passed cmp spans Min UpTo

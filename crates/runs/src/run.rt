@@ -7,7 +7,6 @@ ghost use Rattle.runs.specs.Run.{sorted, overlapping, contained, aggregated, sho
 
 use crate::ranged::Ranged;
 use crate::sorted_run::SortedRun;
-use keys::key_kind::KeyKind;
 use keys::key_range::KeyRange;
 use refusals::refusal::Refusal;
 
@@ -63,28 +62,14 @@ impl<'a, T: Ranged> Run<'a, T> {
 pub fn is_sorted<T: Ranged>(tables: &[T]) -> bool
     ensures { result ≡ sorted T.Key.ranks T.spans tables.now }
 {
-    are_ranges(tables) && tables.is_sorted_by(|t, u| precedes(t, u))
+    are_ranges(tables) && tables.is_sorted_by(|t, u| t.key_range().ends_before(u.key_range()))
 }
 
 // Whether no max is before its min.
 fn are_ranges<T: Ranged>(tables: &[T]) -> bool
     ensures { result ≡ list_all (λ t. not (is_lt (T.Key.ranks (T.spans t).max (T.spans t).min))) tables.now }
 {
-    tables.iter().all(|t| {
-        let range = t.key_range();
-        !range.max.compare(&range.min).is_lt()
-    })
-}
-
-// Whether the first table ends before the second begins.
-fn precedes<T: Ranged>(first: &T, second: &T) -> bool
-    ensures { result ≡ is_lt (T.Key.ranks (T.spans first.now).max (T.spans second.now).min) }
-{
-    first
-        .key_range()
-        .max
-        .compare(&second.key_range().min)
-        .is_lt()
+    tables.iter().all(|t| t.key_range().is_ordered())
 }
 
 /// The span of any tables, in whatever order: from the least min to the greatest max.

@@ -10,12 +10,8 @@ pub const MOST_BYTES: u64 = 1 << 53;
 pub fn total_size<T: TableFile>(tables: &[T], most: u64) -> Option<u64>
     ensures { result ≡ (if nat_le (sum_by T.bytes tables.now) most then Some (sum_by T.bytes tables.now) else None) }
 {
-    let mut total = 0u64;
-    for table in tables {
-        total = total.checked_add(table.file_size())?;
-        if total > most {
-            return None;
-        }
-    }
-    Some(total)
+    tables
+        .iter()
+        .try_fold(0u64, |total, table| total.checked_add(table.file_size()))
+        .filter(|total| *total <= most)
 }

@@ -32,7 +32,7 @@ impl<'a, T: Ranged> SortedRun<'a, T> {
         ensures within { result ≤ length self.now.tables.now }
     {
         self.tables
-            .partition_point(|t| !key.compare(&t.key_range().max).is_lt())
+            .partition_point(|t| key.compare(&t.key_range().max).is_ge())
     }
 
     /// How many tables begin before the key.
@@ -50,7 +50,7 @@ impl<'a, T: Ranged> SortedRun<'a, T> {
         ensures within { result ≤ length self.now.tables.now }
     {
         self.tables
-            .partition_point(|t| !key.compare(&t.key_range().min).is_lt())
+            .partition_point(|t| key.compare(&t.key_range().min).is_ge())
     }
 
     /// The stretch of the run that meets the range.

@@ -1,7 +1,7 @@
 //! Windows of a slice of tables, read one by one in two orders with their sums.
-ghost use Rattle.std.specs.Prelude.{◌≡◌, ◌^◌, ◌≤◌, true, length, IfSome, sum_by};
+ghost use Rattle.std.specs.Prelude.{◌≡◌, ◌+◌, ◌^◌, ◌≤◌, true, length, IfSome, sum_by};
 ghost use Rattle.std.proofs.Props.{props};
-ghost use Rattle.windows.specs.SliceWindows.{stands, Right};
+ghost use Rattle.windows.specs.SliceWindows.{tables_of, Within, stands, Right};
 
 mod cursor;
 
@@ -13,6 +13,16 @@ use runs::ranged::TableFile;
 pub struct Window {
     pub start: usize,
     pub len: usize,
+}
+
+impl Window {
+    /// The tables of the window.
+    pub fn of<'a, T>(&self, tables: &'a [T]) -> &'a [T]
+        requires { self.now.start + self.now.len ≤ length tables.now }
+        ensures { result.now ≡ tables_of self.now tables.now }
+    {
+        &tables[self.start..self.start + self.len]
+    }
 }
 
 /// In which order windows are read; those of one length are read from the left.
@@ -30,6 +40,16 @@ struct Summed {
     window: Window,
     bytes: u64,
     front: u64,
+}
+
+// A window of some tables, with its sums.
+#[derive(Drop)]
+struct Place<'a, T: TableFile> {
+    tables: &'a [T],
+    at: Summed,
+    ghost within: { Within (length tables.now) at.window },
+    ghost small: { sum_by T.bytes tables.now ≤ 2 ^ 53 },
+    ghost right: { Right T.bytes tables.now at },
 }
 
 /// The windows of a slice that are still to be read.

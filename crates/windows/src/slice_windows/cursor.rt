@@ -1,11 +1,11 @@
 //! How windows are read: the next one and its sum come from the one before, at a constant cost.
-ghost use Rattle.std.specs.Prelude.{◌≡◌, ◌+◌, ◌-◌, ◌^◌, ◌<◌, ◌≤◌, true, length, take, IfOk, IfSome, sum_by};
+ghost use Rattle.std.specs.Prelude.{◌≡◌, ◌+◌, ◌-◌, ◌<◌, true, length, IfOk, IfSome};
 ghost use Rattle.std.specs.Iterator.{item_count};
 ghost use Rattle.windows.specs.declared.slice_windows.Order.TheVariants.{Growing, Shrinking};
 ghost use Rattle.windows.specs.SliceWindows.{win, growing, growing_from, shrinking, shrinking_from, Within, Shorter, Longer, EachOnce, stands, Right};
 ghost use Rattle.windows.specs.Cursor.{behind, standing, first_window, in_order, left, opened, readable, Weighed, Reads};
 
-use super::{Order, Reading, Summed, Window, Windows};
+use super::{Order, Place, Reading, Summed, Window, Windows};
 use refusals::refusal::Refusal;
 use runs::ranged::TableFile;
 use runs::sizes::{MOST_BYTES, total_size};
@@ -36,7 +36,7 @@ fn windows<T: TableFile>(tables: &[T], order: Order) -> Result<Windows<'_, T>, R
 {
     let bytes = total_size(tables, MOST_BYTES).ok_or(Refusal::NotSound)?;
     let next = match order {
-        Order::Growing => longer(tables, 0, 0),
+        Order::Growing => first_alone(tables),
         Order::Shrinking => leftmost(tables.len(), bytes),
     };
     Ok(Windows {
@@ -56,87 +56,88 @@ impl<'a, T: TableFile> Iterator for Windows<'a, T> {
     /// Reads the next window, if any is left.
     fn next(&mut self) -> Option<Reading<'a, T>> {
         let at = self.next?;
-        let Window { start, len } = at.window;
         let tables = self.tables;
-        self.next = after(tables, self.order, at);
+        self.next = Place { tables, at }.after(self.order);
         Some(Reading {
             window: at.window,
-            tables: &tables[start..start + len],
+            tables: at.window.of(tables),
             bytes: at.bytes,
         })
     }
 }
 
-// What is read behind a window.
-fn after<T: TableFile>(tables: &[T], order: Order, at: Summed) -> Option<Summed>
-    requires within { Within (length tables.now) at.window }
-    requires small { sum_by T.bytes tables.now ≤ 2 ^ 53 }
-    requires right { Right T.bytes tables.now at }
-    ensures windows { standing order (length tables.now) result ≡ behind order (length tables.now) at.window }
-    ensures stands { stands (length tables.now) result ≡ true }
-    ensures sums { IfSome result (Right T.bytes tables.now) }
-{
-    let Window { start, len } = at.window;
-    if start + len < tables.len() {
-        return Some(further(tables, at));
+impl<'a, T: TableFile> Place<'a, T> {
+    // What is read behind the window.
+    fn after(&self, order: Order) -> Option<Summed>
+        ensures windows { standing order (length self.now.tables.now) result ≡ behind order (length self.now.tables.now) self.now.at.window }
+        ensures stands { stands (length self.now.tables.now) result ≡ true }
+        ensures sums { IfSome result (Right T.bytes self.now.tables.now) }
+    {
+        let Window { start, len } = self.at.window;
+        if start + len < self.tables.len() {
+            return Some(self.further());
+        }
+        match order {
+            Order::Growing => self.longer(),
+            Order::Shrinking => self.shorter(),
+        }
     }
-    match order {
-        Order::Growing => longer(tables, len, at.front),
-        Order::Shrinking => shorter(tables, len, at.front),
+
+    // The window of the same length that starts one table further.
+    fn further(&self) -> Summed
+        requires within { self.now.at.window.start + self.now.at.window.len < length self.now.tables.now }
+        ensures window { result.window ≡ win (self.now.at.window.start + 1) self.now.at.window.len }
+        ensures sums { Right T.bytes self.now.tables.now result }
+    {
+        let Window { start, len } = self.at.window;
+        let grown = self.at.bytes + self.tables[start + len].file_size();
+        Summed {
+            window: Window {
+                start: start + 1,
+                len,
+            },
+            bytes: grown - self.tables[start].file_size(),
+            front: self.at.front,
+        }
+    }
+
+    // The leftmost window that has one table more.
+    fn longer(&self) -> Option<Summed>
+        ensures windows { standing Growing (length self.now.tables.now) result ≡ growing_from (length self.now.tables.now) (self.now.at.window.len + 1) (length self.now.tables.now - self.now.at.window.len) }
+        ensures stands { stands (length self.now.tables.now) result ≡ true }
+        ensures sums { IfSome result (Right T.bytes self.now.tables.now) }
+    {
+        let len = self.at.window.len;
+        let next = self.tables.get(len)?;
+        leftmost(len + 1, self.at.front + next.file_size())
+    }
+
+    // The leftmost window that has one table less.
+    fn shorter(&self) -> Option<Summed>
+        ensures windows { standing Shrinking (length self.now.tables.now) result ≡ shrinking_from (length self.now.tables.now) (self.now.at.window.len - 1) }
+        ensures stands { stands (length self.now.tables.now) result ≡ true }
+        ensures sums { IfSome result (Right T.bytes self.now.tables.now) }
+    {
+        let len = self.at.window.len;
+        leftmost(len - 1, self.at.front - self.tables[len - 1].file_size())
     }
 }
 
-// The window of the same length that starts one table further.
-fn further<T: TableFile>(tables: &[T], at: Summed) -> Summed
-    requires within { at.window.start + at.window.len < length tables.now }
-    requires small { sum_by T.bytes tables.now ≤ 2 ^ 53 }
-    requires right { Right T.bytes tables.now at }
-    ensures window { result.window ≡ win (at.window.start + 1) at.window.len }
-    ensures sums { Right T.bytes tables.now result }
-{
-    let Window { start, len } = at.window;
-    let grown = at.bytes + tables[start + len].file_size();
-    Summed {
-        window: Window {
-            start: start + 1,
-            len,
-        },
-        bytes: grown - tables[start].file_size(),
-        front: at.front,
-    }
-}
-
-// The leftmost window that has one table more, given the sum of the first tables.
-fn longer<T: TableFile>(tables: &[T], len: usize, front: u64) -> Option<Summed>
-    requires small { sum_by T.bytes tables.now ≤ 2 ^ 53 }
-    requires front { front ≡ sum_by T.bytes (take len tables.now) }
-    ensures windows { standing Growing (length tables.now) result ≡ growing_from (length tables.now) (len + 1) (length tables.now - len) }
+// The window of the first table alone; of no tables there is none.
+fn first_alone<T: TableFile>(tables: &[T]) -> Option<Summed>
+    ensures windows { standing Growing (length tables.now) result ≡ growing (length tables.now) }
     ensures stands { stands (length tables.now) result ≡ true }
     ensures sums { IfSome result (Right T.bytes tables.now) }
 {
-    let next = tables.get(len)?;
-    leftmost(len + 1, front + next.file_size())
-}
-
-// The leftmost window that has one table less, given the sum of the first tables.
-fn shorter<T: TableFile>(tables: &[T], len: usize, front: u64) -> Option<Summed>
-    requires within { (0 < len) × (len ≤ length tables.now) }
-    requires front { front ≡ sum_by T.bytes (take len tables.now) }
-    ensures windows { standing Shrinking (length tables.now) result ≡ shrinking_from (length tables.now) (len - 1) }
-    ensures stands { stands (length tables.now) result ≡ true }
-    ensures sums { IfSome result (Right T.bytes tables.now) }
-{
-    leftmost(len - 1, front - tables[len - 1].file_size())
+    let first = tables.first()?;
+    leftmost(1, first.file_size())
 }
 
 // The window of the first tables, with their sum; of no tables there is none.
 fn leftmost(len: usize, bytes: u64) -> Option<Summed>
     ensures { result ≡ first_window len bytes }
 {
-    if len == 0 {
-        return None;
-    }
-    Some(Summed {
+    (len > 0).then_some(Summed {
         window: Window { start: 0, len },
         bytes,
         front: bytes,

@@ -1,6 +1,5 @@
 use Rattle.std.proofs.Common.{◌≡◌, ◌-◌, ◌^◌, ◌≤◌, length, sum_by, sym, ap, ◌∙◌, arith, rules}
 use Rattle.windows.specs.declared.slice_windows.Order.TheVariants.{Growing, Shrinking}
-use Rattle.windows.specs.SliceWindows.{growing_from}
 use Rattle.windows.specs.Cursor.{standing, in_order}
 use Rattle.windows.proofs.Behind.{standing_shrinking}
 use Rattle.windows.proofs.WindowSums.{opens}
@@ -12,8 +11,7 @@ returns-clause-all g c =
     let n = length c.args.tables.now in
     elim c.match-order.branch [
       | in-Growing w ↦
-          ap (λ o. standing o n c.match-order.next) w.in-Growing.is ∙ ap (standing Growing n) w.next-is ∙ w.longer-next.ensures.windows
-          ∙ ap (growing_from n 1) (let q : n - 0 ≡ n = omega arith in q) ∙ sym (ap (λ o. in_order o n) w.in-Growing.is)
+          ap (λ o. standing o n c.match-order.next) w.in-Growing.is ∙ ap (standing Growing n) w.next-is ∙ w.first_alone-next.ensures.windows ∙ sym (ap (λ o. in_order o n) w.in-Growing.is)
       | in-Shrinking w ↦
           ap (λ o. standing o n c.match-order.next) w.in-Shrinking.is ∙ ap (standing Shrinking n) (w.next-is ∙ w.leftmost-next.ensures)
           ∙ standing_shrinking n n _ (omega arith) ∙ sym (ap (λ o. in_order o n) w.in-Shrinking.is)
