@@ -1,5 +1,4 @@
 pub mod Arrivals
-pub mod Filtering
 pub mod Parting
 pub mod Recounting
 pub mod Reducing

@@ -7,7 +7,7 @@ use Rattle.std.proofs.lemmas.Bool.{not-true, not-false}
 use Rattle.runs.specs.declared.table.Table.{Table}
 use Rattle.sheets.specs.Edits.{laid}
 use Rattle.sheets.specs.Tables.{named, unnamed, without, parted}
-use Rattle.edits.proofs.Filtering.{kept_yes, kept_no}
+use Rattle.sheets.proofs.Filtering.{kept_yes, kept_no}
 use Rattle.sheets.proofs.Laid.{get_or_laid, laid_same, relaid}
 
 -- ys began as xs: its first i are parted, k of them not named

@@ -9,6 +9,7 @@ use keys::key_kind::KeyKind;
 use keys::key_range::KeyRange;
 use runs::ranged::TableFile;
 use runs::table::Table;
+use sheets::keeping::keep_those;
 
 /// Puts the table at the place; what stood from there on moves one to the right.
 pub fn insert_at<K: Copy>(sheet: &mut [Table<K>], count: usize, at: usize, table: Table<K>)
@@ -53,16 +54,7 @@ pub fn remove_all<K: Copy>(sheet: &mut [Table<K>], count: usize, numbers: &[u64]
     ensures count { result ≡ length (without numbers.now (take count sheet.old)) }
     ensures sheet { sheet.new ≡ laid (without numbers.now (take count sheet.old)) sheet.old }
 {
-    // The slice is read ahead of where it is written, so the loop goes by index.
-    let mut left = 0;
-    for i in 0..count {
-        let t = sheet[i];
-        if !numbers.contains(&t.number) {
-            sheet[left] = t;
-            left += 1;
-        }
-    }
-    left
+    keep_those(sheet, count, |t| !numbers.contains(&t.number))
 }
 
 /// Gives the table at the place another level and run.

@@ -5,7 +5,6 @@ ghost use Rattle.runs.specs.Fresh.{settled};
 ghost use Rattle.sheets.specs.Tables.{without, parted, placed, inserts};
 
 use crate::order::insert;
-use crate::records::insert_at;
 use keys::key_kind::KeyKind;
 use runs::fresh::Fresh;
 use runs::table::Table;
@@ -16,12 +15,11 @@ pub fn part<K: Copy>(sheet: &mut [Table<K>], count: usize, numbers: &[u64]) -> u
     ensures count { result ≡ length (without numbers.now (take count sheet.old)) }
     ensures sheet { sheet.new ≡ laid (parted numbers.now (take count sheet.old)) sheet.old }
 {
-    // Each insertion shifts the slice, so the loop goes by index.
+    // Each rotation shifts the slice, so the loop goes by index.
     let mut left = 0;
     for i in 0..count {
-        let t = sheet[i];
-        if !numbers.contains(&t.number) {
-            insert_at(sheet, i, left, t);
+        if !numbers.contains(&sheet[i].number) {
+            sheet[left..=i].rotate_right(1);
             left += 1;
         }
     }

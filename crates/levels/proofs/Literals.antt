@@ -2,7 +2,7 @@
 use Rattle.std.proofs.Common.{◌≡◌, refl}
 use lib.Ieee.{binary32, binary64, of_bits, of_int, round}
 use Rattle.levels.specs.Rounding.{single}
-use Rattle.levels.specs.Scores.{double, none, forced}
+use Rattle.levels.specs.Scores.{double, forced}
 
 pub one_is : of_bits binary32 0x3f80_0000 ≡ single 1
 unfolding of_bits of_int
@@ -15,10 +15,6 @@ ten_is = refl
 pub thousand_is : of_bits binary32 0x447a_0000 ≡ single 1000
 unfolding of_bits of_int
 thousand_is = refl
-
-pub none_is : of_bits binary64 0 ≡ none
-unfolding of_bits
-none_is = refl
 
 pub forced_is : of_bits binary64 0x4058_ff5c_28f5_c28f ≡ forced
 unfolding of_bits round

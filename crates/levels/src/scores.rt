@@ -2,6 +2,9 @@
 ghost use Rattle.std.specs.Prelude.{◌≡◌, ◌^◌, ◌<◌, ◌≤◌};
 ghost use Rattle.levels.specs.Scores.{level_score, first_level_score, Scored, winner, chosen, AllScored, Chooses};
 
+/// How many levels there are.
+pub const LEVELS: usize = 7;
+
 /// The score of level 0: its table count over the threshold, if that is at least 1.
 pub fn first_level_score(table_count: usize, threshold: u32) -> f64
     requires { table_count ≤ 2 ^ 53 }
@@ -31,7 +34,7 @@ pub fn level_score(free_bytes: u64, target_size: u64, next_is_empty: bool) -> f6
 }
 
 /// The level with the highest score, the last among equals: none where that is below 1.
-pub fn chosen_level(scores: &[f64; 7]) -> Option<usize>
+pub fn chosen_level(scores: &[f64; LEVELS]) -> Option<usize>
     ensures value { result ≡ chosen scores.now }
     ensures highest { AllScored scores.now → Chooses scores.now result }
 {
@@ -44,7 +47,7 @@ pub fn chosen_level(scores: &[f64; 7]) -> Option<usize>
 }
 
 // The place of the highest score, the last among equals.
-fn highest(scores: &[f64; 7]) -> usize
+fn highest(scores: &[f64; LEVELS]) -> usize
     ensures value { result ≡ winner scores.now 7 }
     ensures within { result < 7 }
 {

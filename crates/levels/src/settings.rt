@@ -5,7 +5,13 @@ ghost use Rattle.levels.specs.Settings.{defaults, with_target_size, with_thresho
 use refusals::refusal::Refusal;
 
 // The largest target size, 2^40.
-const MAX_TARGET_SIZE: u64 = 1_099_511_627_776;
+const MAX_TARGET_SIZE: u64 = 1 << 40;
+
+// The largest threshold.
+const MAX_THRESHOLD: u32 = 255;
+
+/// How many ratios settings hold.
+pub const RATIOS: usize = 5;
 
 /// The settings of leveled. Any value can be written here; `check` refuses those outside the limits.
 // Five places and a count in place of a list: settings are copied, and the library has no heap.
@@ -16,7 +22,7 @@ pub struct Settings {
     /// How many tables of level 0 it takes to merge them into level 1, from 1 to 255.
     pub threshold: u32,
     /// The growth from level to level, each ratio from 1.0 to 1,000.0. Places past those given are not read.
-    pub ratios: [f32; 5],
+    pub ratios: [f32; RATIOS],
     /// How many ratios are given, at most five. A missing one is the last given, or 10.0 where none is.
     pub given: usize,
 }
@@ -59,8 +65,8 @@ impl Settings {
     pub fn with_level_ratio_policy(self, policy: &[f32]) -> Settings
         ensures { result ≡ with_ratios policy.now self }
     {
-        let kept = policy.len().min(5);
-        let mut ratios = [0.0; 5];
+        let kept = policy.len().min(RATIOS);
+        let mut ratios = [0.0; RATIOS];
         ratios[0..kept].copy_from_slice(&policy[0..kept]);
         Settings {
             ratios,
@@ -73,7 +79,7 @@ impl Settings {
     pub(crate) fn level_ratio_policy(&self) -> &[f32]
         ensures { result.now ≡ ratios_of self.now }
     {
-        &self.ratios[..self.given.min(5)]
+        &self.ratios[..self.given.min(RATIOS)]
     }
 
     /// Refuses settings outside their limits, and ratios that are no number.
@@ -81,8 +87,8 @@ impl Settings {
         ensures { result ≡ checked self.now }
     {
         if (1..=MAX_TARGET_SIZE).contains(&self.target_size)
-            && (1..=255).contains(&self.threshold)
-            && self.given <= 5
+            && (1..=MAX_THRESHOLD).contains(&self.threshold)
+            && self.given <= RATIOS
             && are_allowed(self.level_ratio_policy())
         {
             Ok(())

@@ -28,10 +28,10 @@ impl Settings {
             return base;
         }
         let ratios = self.level_ratio_policy();
-        let mut size = nearest_f32(base);
-        for i in 0..canonical_level as usize - 1 {
-            size *= ratio_at(ratios, i);
-        }
+        let size = (0..canonical_level as usize - 1).fold(
+            nearest_f32(base),
+            |size, i| size * ratio_at(ratios, i),
+        );
         saturating_f32_to_u64(size)
     }
 }

@@ -1,15 +1,11 @@
 -- Steps through a list of numbers that are hidden, or asked for.
 use Rattle.std.proofs.Common.{◌≡◌, ℕ, ◌+◌, ◌<◌, ◌≤◌, Bool, true, false, cond, not, ◌&&◌, ◌||◌, eqb, leb, List, [], ◌∷◌, ◌++◌, length, get_or, take, drop, sym, refl, ap, ◌∙◌, arith}
-use Rattle.std.proofs.lemmas.List.{at_drop_more, length_push, length-take, take_at, take_all, take-take}
+use Rattle.std.proofs.lemmas.List.{at_drop_more, length_push, take_at, take_all, take-take}
 use Rattle.std.proofs.lemmas.Bool.{lt-leb, eqb-true, and_right}
-use Rattle.sheets.specs.HiddenSet.{hidden, hiding, showing}
+use Rattle.sheets.specs.HiddenSet.{hiding, showing}
 use Rattle.sheets.specs.Tables.{memb}
-use Rattle.sheets.specs.declared.hidden_set.HiddenSet.{HiddenSet}
 
 module _ (hs xs : List ℕ) (i : ℕ) (within : i < length xs) where
-  pub hiding_old : memb (get_or xs i 0) hs ≡ true → hiding hs (drop i xs) ≡ hiding hs (drop (i + 1) xs)
-  hiding_old e = at_drop_more (hiding hs) xs i 0 within ∙ ap (λ b. hiding (cond b hs (hs ++ get_or xs i 0 ∷ [])) (drop (i + 1) xs)) e
-
   pub hiding_new : memb (get_or xs i 0) hs ≡ false → hiding hs (drop i xs) ≡ hiding (hs ++ get_or xs i 0 ∷ []) (drop (i + 1) xs)
   hiding_new e = at_drop_more (hiding hs) xs i 0 within ∙ ap (λ b. hiding (cond b hs (hs ++ get_or xs i 0 ∷ [])) (drop (i + 1) xs)) e
 

@@ -1,9 +1,11 @@
 -- Lists after an edit: what was laid over the front, and what is kept behind it.
 use Rattle.std.proofs.Common.{◌≡◌, ℕ, zero, suc, ◌+◌, ◌-◌, ◌<◌, ◌≤◌, Bool, true, false, cond, List, [], ◌∷◌, ◌++◌, length, get_or, take, drop, set, sym, refl, ap, ◌∙◌, arith, rules}
 use lib.Seq.{paste}
+use borrow.Rule.Slice.PartMut.{put_mid, mid_of}
 use Rattle.std.specs.List.{insert, remove}
 use Rattle.std.proofs.lemmas.List.Edits.{length-insert, length-remove}
-use Rattle.std.proofs.lemmas.List.{same_lists, places, append_assoc, drop-set, drop-drop, drop_at, take_at, set-append_right, get_or-append_right, get_or-drop, get_or-set_same, length-drop, length_push, length-take-le, take-append-drop}
+use Rattle.std.proofs.lemmas.List.{same_lists, places, append_assoc, drop-set, drop-drop, drop_at, take_at, set-append_right, get_or-append_right, get_or-drop, get_or-set_same, length-drop, length_push, length-take-le, take-append-drop, take-take, take_more}
+use Rattle.std.proofs.lemmas.Slice.{between_is}
 use Rattle.std.proofs.lemmas.Bool.{cases_eq}
 use Rattle.runs.proofs.Sorteds.{drop_read}
 use Rattle.sheets.specs.Edits.{laid, changed}
@@ -70,6 +72,30 @@ module _ {X : Type 0} where
       let n = length-take-le count s (omega arith) in
       let m : count + 1 ≡ length (insert (take count s) at t) = omega (arith, length-insert (take count s) at t (omega arith)) in
       shift_right s at count t le lt ∙ ap (λ j. insert (take count s) at t ++ drop j s) m
+
+  -- ---- the part from `at` to i turned by one to the right: what stood last of it is put in before it
+  pub turned_in : (s ys : List X) (at i k : ℕ) (x : X) → at ≤ i → i < length s → k ≡ i + 1 - at → x ≡ get_or s i x
+      → ys ≡ drop (length (mid_of at k s) - 1) (mid_of at k s) ++ take (length (mid_of at k s) - 1) (mid_of at k s) → put_mid at k s ys ≡ laid (insert (take i s) at x) s
+  turned_in s ys at i k x le lt n e is =
+      let a : List X = take (i - at) (drop at s) in
+      let m : List X = take k (drop at s) in
+      let long = length-drop at s in
+      let short : length a ≡ i - at = length-take-le (i - at) (drop at s) (omega (arith, long)) in
+      let up : k ≡ (i - at) + 1 = omega arith in
+      let there : at + (i - at) ≡ i = omega arith in
+      let last : get_or (drop at s) (i - at) x ≡ x = get_or-drop at s (i - at) x ∙ ap (λ j. get_or s j x) there ∙ sym e in
+      let all : m ≡ a ++ x ∷ [] = ap (λ j. take j (drop at s)) up ∙ take_more (drop at s) (i - at) x (omega (arith, long)) ∙ ap (λ y. a ++ y ∷ []) last in
+      let one : length m - 1 ≡ i - at = omega (arith, ap length all, length_push a x, short) in
+      let turned : ys ≡ x ∷ a =
+      is ∙ ap (λ j. drop j m ++ take j m) one ∙ ap (λ l. drop (i - at) l ++ take (i - at) l) all
+      ∙ ap (λ l. l ++ take (i - at) (a ++ x ∷ [])) (drop_at a (x ∷ []) (i - at) short) ∙ ap (λ l. x ∷ l) (take_at a (x ∷ []) (i - at) short) in
+      let end : at + k ≡ i + 1 = omega arith in
+      let rest : drop k (drop at s) ≡ drop (i + 1) s = drop-drop k at s ∙ ap (λ j. drop j s) end in
+      let front : insert (take i s) at x ≡ take at s ++ x ∷ a =
+      ap (λ l. l ++ x ∷ drop at (take i s)) (take-take at i s le) ∙ ap (λ l. take at s ++ x ∷ l) (sym (between_is s at i)) in
+      let size : i + 1 ≡ length (insert (take i s) at x) = omega (arith, length-insert (take i s) at x (omega (arith, length-take-le i s (omega arith))), length-take-le i s (omega arith)) in
+      ap (λ l. take at s ++ (l ++ drop k (drop at s))) turned ∙ ap (λ l. take at s ++ (x ∷ a ++ l)) (rest ∙ ap (λ j. drop j s) size)
+      ∙ sym (append_assoc (take at s) (x ∷ a) (drop (length (insert (take i s) at x)) s)) ∙ ap (λ l. l ++ drop (length (insert (take i s) at x)) s) (sym front)
 
   -- ---- a shift by one to the left
   shift_left : (s : List X) (at count : ℕ) → at < count → count ≤ length s →

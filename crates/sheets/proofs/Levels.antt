@@ -1,6 +1,5 @@
 -- Levels are stretches of a sheet that ascends by level, and what is asked of one is asked of its stretch.
 use Rattle.std.proofs.Common.{◌||◌, ◌≡◌, ℕ, zero, suc, ◌+◌, ◌-◌, ◌<◌, ◌≤◌, max, Bool, true, false, cond, not, ◌&&◌, eqb, ltb, List, [], ◌∷◌, length, get_or, take, drop, count_by, filter, sym, refl, ap, ◌∙◌, subst, inl, inr, arith}
-use Rattle.std.specs.List.{list_any}
 use Rattle.std.proofs.lemmas.List.Elements.{filter_more}
 use Rattle.std.proofs.lemmas.List.Filters.{sum_by-filter_both}
 use Rattle.std.proofs.lemmas.List.{nil_from_length}
@@ -9,7 +8,7 @@ use Rattle.std.proofs.lemmas.Bool.{cases_Bool, ltb-false, lt-ltb, le-ltb, eqb-tr
 use Rattle.std.proofs.lemmas.Bool.Decides.{nat_tests}
 use Rattle.runs.specs.declared.table.Table.{Table}
 use Rattle.runs.proofs.Falls.{Falls, count_yes, count_no, kept_between}
-use Rattle.sheets.specs.Level.{size_of, in_level, level_of, count_of, filled, touched, runs, Stacked}
+use Rattle.sheets.specs.Level.{size_of, in_level, level_of, count_of, filled, runs, Stacked}
 use Rattle.sheets.specs.Members.{In, here, later, Every, Pairs, none, more}
 use Rattle.sheets.specs.Tables.{named, unnamed, without}
 use Rattle.sheets.proofs.Each.{in_kept, kept_pairs, pairs_weaker}
@@ -120,21 +119,3 @@ module _ {K : Type 0} where
   filled_is n (t ∷ ts) =
       let rest = filled_is n ts in
       elim (in_level n t) as (λ b. (b || filled ts n) ≡ ltb 0 (length (cond b (t ∷ level_of n ts) (level_of n ts)))) [ true ↦ sym (lt-ltb 0 (suc (count_of ts n)) (omega arith)) | false ↦ rest ]
-
-  pub touched_is : (hs : List ℕ) (n : ℕ) (ts : List (Table K)) → touched hs ts n ≡ list_any (λ t. in_level n t && named hs t) ts
-  touched_is hs n [] = refl
-  touched_is hs n (t ∷ ts) =
-      let rest = touched_is hs n ts in
-      elim (in_level n t) as (λ b. list_any (named hs) (cond b (t ∷ level_of n ts) (level_of n ts)) ≡ ((b && named hs t) || list_any (λ u. in_level n u && named hs u) ts)) [
-        | true ↦ ap (λ c. named hs t || c) rest
-        | false ↦ rest
-      ]
-
-  pub free_is : (hs : List ℕ) (n : ℕ) (ts : List (Table K)) → without hs (level_of n ts) ≡ filter (λ t. in_level n t && unnamed hs t) ts
-  free_is hs n [] = refl
-  free_is hs n (t ∷ ts) =
-      let rest = free_is hs n ts in
-      elim (in_level n t) as (λ b. without hs (cond b (t ∷ level_of n ts) (level_of n ts)) ≡ cond (b && unnamed hs t) (t ∷ filter (λ u. in_level n u && unnamed hs u) ts) (filter (λ u. in_level n u && unnamed hs u) ts)) [
-        | true ↦ ap (λ us. cond (unnamed hs t) (t ∷ us) us) rest
-        | false ↦ rest
-      ]

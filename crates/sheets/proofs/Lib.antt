@@ -4,6 +4,7 @@ pub mod AlikeSound
 pub mod Ascends
 pub mod Distinct
 pub mod Each
+pub mod Filtering
 pub mod Hiding
 pub mod Inserts
 pub mod Laid

@@ -1,12 +1,7 @@
 -- The hidden set as the list of its numbers, in the order in which they were hidden.
-use Rattle.std.specs.Prelude.{ℕ, Bool, cond, not, List, [], ◌∷◌, ◌++◌, take, filter}
+use Rattle.std.specs.Prelude.{ℕ, Bool, cond, not, List, [], ◌∷◌, ◌++◌, filter}
 use Rattle.std.specs.List.{list_any}
 use Rattle.sheets.specs.Tables.{memb}
-use Rattle.sheets.specs.declared.hidden_set.HiddenSet.{HiddenSet}
-
--- the hidden numbers
-abbrev pub hidden : HiddenSet → List ℕ
-hidden set = take set.count set.ids
 
 -- one of the numbers is hidden
 abbrev pub blocked : List ℕ → List ℕ → Bool

@@ -5,3 +5,4 @@ pub mod Members
 pub mod Recount
 pub mod Sound
 pub mod Tables
+pub mod Tests

@@ -4,7 +4,6 @@ use Rattle.std.specs.declared.cmp.Ordering.{Ordering}
 use Rattle.std.specs.Ordering.{is_lt, ordering_then, nat_cmp}
 use Rattle.std.specs.List.{prefix_len, list_any}
 use Rattle.runs.specs.declared.table.Table.{Table}
-use Rattle.runs.specs.declared.fresh.Fresh.{Fresh}
 
 -- the number is in the list
 abbrev pub memb : ℕ → List ℕ → Bool

@@ -1,7 +1,8 @@
 //! The hidden set keeps track of which tables are being compacted.
-ghost use Rattle.std.specs.Prelude.{◌≤◌};
-
 pub mod ops;
+
+use crate::sound::MOST_TABLES;
+use std::marker::Model;
 
 /// The numbers of the tables that are being compacted, in the order in which they were hidden.
 ///
@@ -9,7 +10,16 @@ pub mod ops;
 /// The set allocates nothing: a plain array, of which the first `count` numbers are hidden.
 #[derive(Drop)]
 pub struct HiddenSet {
-    ids: [u64; 1024],
+    ids: [u64; MOST_TABLES],
     count: usize,
-    ghost few: { count ≤ 1024 },
+}
+
+impl Model for HiddenSet {
+    ghost use Rattle.std.specs.Prelude.{ℕ, ◌≤◌, List, take};
+
+    ghost Value = { List ℕ };
+
+    ghost view = { λ set. take set.count set.ids };
+
+    ghost invariant = { λ set. set.count ≤ 1024 };
 }

@@ -2,7 +2,6 @@
 ghost use Rattle.std.specs.Prelude.{◌≡◌, ◌^◌, ◌≤◌, length, count_by, nat_lt};
 ghost use Rattle.std.specs.List.{list_any};
 ghost use Rattle.sheets.specs.Edits.{laid};
-ghost use Rattle.sheets.specs.HiddenSet.{hidden};
 ghost use Rattle.sheets.specs.Level.{numbers_of, size_of, level_of, touched, runs, Stacked};
 ghost use Rattle.sheets.specs.Tables.{named, without};
 
@@ -46,7 +45,7 @@ pub fn run_count<K>(tables: &[Table<K>]) -> usize
 
 /// Whether one of the tables is hidden.
 pub fn has_hidden<K>(tables: &[Table<K>], set: &HiddenSet) -> bool
-    ensures { result ≡ list_any (named (hidden set.now)) tables.now }
+    ensures { result ≡ list_any (named set.now) tables.now }
 {
     tables.iter().any(|t| set.is_hidden(t.number))
 }
@@ -54,7 +53,7 @@ pub fn has_hidden<K>(tables: &[Table<K>], set: &HiddenSet) -> bool
 /// Whether level `n` has a hidden table.
 pub fn level_is_busy<K>(tables: &[Table<K>], n: u8, set: &HiddenSet) -> bool
     requires { Stacked tables.now }
-    ensures { result ≡ touched (hidden set.now) tables.now n }
+    ensures { result ≡ touched set.now tables.now n }
 {
     has_hidden(level(tables, n).tables, set)
 }
@@ -70,7 +69,7 @@ pub fn size<K>(tables: &[Table<K>]) -> u64
 /// The bytes of the tables that are not hidden.
 pub fn free_size<K>(tables: &[Table<K>], set: &HiddenSet) -> u64
     requires { size_of tables.now ≤ 2 ^ 53 }
-    ensures { result ≡ size_of (without (hidden set.now) tables.now) }
+    ensures { result ≡ size_of (without set.now tables.now) }
 {
     tables
         .iter()

@@ -2,6 +2,8 @@
 #![tactic(auto)]
 
 pub mod hidden_set;
+pub mod keeping;
 pub mod level;
+pub mod marks;
 pub mod order;
 pub mod sound;

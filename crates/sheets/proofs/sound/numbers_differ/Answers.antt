@@ -1,23 +1,10 @@
-use Rattle.std.proofs.Common.{◌≡◌, ℕ, ◌≤◌, List, ◌++◌, length, take, ap, ◌∙◌, arith}
-use Rattle.std.proofs.lemmas.List.{drop_all, append-nil, length-map, length-take}
+use Rattle.std.proofs.Common.{◌∙◌}
 use Rattle.std.proofs.lemmas.List.Sorted.{IsNonDecreasingBy-from_sort}
-use Rattle.sheets.specs.Edits.{laid}
-use Rattle.sheets.specs.Level.{numbers_of}
-use Rattle.sheets.specs.Sound.{distinct}
 use Rattle.sheets.proofs.Distinct.{distinct_shuffled}
 use Rattle.sheets.proofs.sound.numbers_differ.Goals as goal
 
--- as many as the slice has room for are laid over the whole of it
-whole : (xs s ys : List ℕ) (n : ℕ) → ys ≡ laid xs (take n s) → n ≤ length xs → ys ≡ xs
-whole xs s ys n e h = e ∙ ap (λ l. xs ++ l) (drop_all (length xs) (take n s) (omega (arith, length-take n s))) ∙ append-nil xs
-
 pub neighbours_differ-requires : goal.neighbours_differ-requires
-neighbours_differ-requires g c = IsNonDecreasingBy-from_sort (λ x. x) c.sort_unstable.new.self c.sort_unstable.ensures.sorted
+neighbours_differ-requires c = IsNonDecreasingBy-from_sort (λ x. x) c.sort_unstable.new.self c.sort_unstable.ensures.sorted
 
-pub returns : goal.returns
-returns g c =
-    let ts = c.args.tables.now in
-    let ns = numbers_of ts in
-    let ids = c.list_ids.new.ids in
-    let listed : ids ≡ ns = whole ns _ ids (length ts) c.list_ids.ensures (omega (arith, length-map ts (λ t. t.number))) in
-    c.neighbours_differ.ensures ∙ distinct_shuffled ids c.sort_unstable.new.self c.sort_unstable.ensures.permutation ∙ ap distinct listed
+pub returns-clause-answer : goal.returns-clause-answer
+returns-clause-answer c = c.neighbours_differ.ensures ∙ distinct_shuffled c.args.numbers.now c.sort_unstable.new.self c.sort_unstable.ensures.permutation

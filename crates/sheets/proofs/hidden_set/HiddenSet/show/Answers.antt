@@ -1,18 +1,12 @@
-use Rattle.std.proofs.Common.{◌≡◌, ◌<◌, not, length, get_or, sym, ap, ◌∙◌, arith}
-use Rattle.std.proofs.lemmas.List.{get_or_default}
-use Rattle.std.proofs.lemmas.List.Filters.{FiltersInPlace-more_no, FiltersInPlace-more_set}
+use Rattle.std.proofs.Common.{ap, ◌∙◌, take, rules}
+use Rattle.sheets.specs.HiddenSet.{showing}
+use Rattle.sheets.proofs.Laid.{take_laid}
 use Rattle.sheets.proofs.hidden_set.HiddenSet.show.Goals as goal
-use Rattle.sheets.proofs.hidden_set.HiddenSet.show.Goals.{then-not-contains, else-not-contains}
 
-pub loop-i-preserved : goal.loop-i-preserved
-loop-i-preserved c =
-    let ids = c.loop-i.self.ids in
-    let i = c.loop-i.i in
-    let h : i < length ids = omega arith in
-    let x = get_or ids i 0 in
-    let e : x ≡ get_or ids i x = get_or_default ids i 0 x h in
-    let found = c.contains.ensures.value in
-    elim c.if-not-contains.branch [
-      | then-not-contains w ↦ rw (w.self-is, w.left-is) (FiltersInPlace-more_set c.loop-i.invariant h (ap not (sym found ∙ w.if-not-contains.true)) e)
-      | else-not-contains w ↦ rw (w.self-is, w.left-is) (FiltersInPlace-more_no c.loop-i.invariant h (ap not (sym found ∙ w.if-not-contains.false)) e)
-    ]
+pub returns : goal.returns
+returns c =
+    let kept = c.keep_those-self-inside in
+    let set = c.self.inside in
+    ap (take kept.result) (kept.ensures.items _ (λ n b h. search rules))
+    ∙ take_laid (showing c.args.ids.now (take set.count set.ids)) set.ids kept.result (kept.ensures.count _ (λ n b h. search rules))
+    ∙ ap (showing c.args.ids.now) c.self.view_is
