@@ -1,16 +1,12 @@
 -- Stretches that were named are an answer that names the tables which pass a test.
-use Rattle.std.proofs.Common.{◌≡◌, ℕ, suc, ◌+◌, ◌-◌, ◌≤◌, Bool, true, false, not, ◌&&◌, ◌||◌, eqb, List, [], ◌++◌, length, take, drop, Some, None, Ok, Err, filter, Option, Ordering, sym, refl, ap, ◌∙◌, inl, inr, add-one, arith}
+use Rattle.std.proofs.Common.{◌≡◌, ℕ, suc, ◌+◌, ◌-◌, ◌≤◌, Bool, true, false, not, ◌&&◌, ◌||◌, eqb, List, [], ◌++◌, length, take, drop, Some, None, Ok, filter, Option, Ordering, sym, refl, ap, ◌∙◌, add-one, arith}
 use Rattle.std.specs.List.{list_any}
 use Rattle.std.proofs.lemmas.List.Filters.{sum_by-filter_both}
 use Rattle.std.proofs.lemmas.List.{append-nil, length-append, length-take, length-drop}
 use Rattle.std.proofs.lemmas.List.Sums.{sum_by-append, length-filter, count_by-le-length}
-use Rattle.std.proofs.lemmas.Bool.{cases_Bool, and_left, and_right, and_from, cond-true, cond-false, eq-eqb, ne_eqb}
-use Rattle.refusals.specs.declared.refusal.Refusal.{Refusal}
-use Rattle.refusals.specs.declared.refusal.Refusal.TheVariants as R
+use Rattle.std.proofs.lemmas.Bool.{and_left, and_right, and_from, cond-true, cond-false, eq-eqb, ne_eqb}
 use Rattle.keys.specs.KeyKind.{Laws}
 use Rattle.levels.specs.declared.settings.Settings.{Settings}
-use Rattle.levels.specs.Scores.{chosen}
-use Rattle.levels.specs.Settings.{in_limits, checked}
 use Rattle.runs.specs.declared.table.Table.{Table}
 use Rattle.windows.specs.declared.slice_windows.Window.{Window}
 use Rattle.runs.specs.Run.{sorted, span_of}
@@ -23,15 +19,14 @@ use Rattle.picks.specs.Pick.{pick}
 use Rattle.picks.specs.PickLaw.{Merges}
 use Rattle.picks.proofs.Merges.{stretch_contained}
 use Rattle.sheets.specs.Edits.{laid}
-use Rattle.sheets.specs.Level.{numbers_of, size_of, in_level, level_of, touched, runs}
+use Rattle.sheets.specs.Level.{numbers_of, size_of, level_of, touched, runs}
 use Rattle.sheets.specs.Sound.{tables_ok}
 use Rattle.strategies.specs.declared.choice.Choice.{Choice}
 use Rattle.strategies.specs.declared.choice.Choice.TheVariants as C
 use Rattle.strategies.specs.declared.choice.Input.{Input}
 use Rattle.strategies.specs.declared.choice.Kind.TheVariants.{Move, Merge}
-use Rattle.strategies.specs.declared.declined.Declined.TheVariants.{BadSetting}
-use Rattle.strategies.specs.Answer.{Answer, nothing, declines, naming, returned, written}
-use Rattle.leveled.specs.Leveled.{one_run, first_level, scores, met, zero_and, sinks, slides, zero_won, moved, merged, picked, pick_for, won, from_first, leveled}
+use Rattle.strategies.specs.Answer.{Answer, nothing, naming, returned, written}
+use Rattle.leveled.specs.Leveled.{one_run, met, zero_and, zero_won, moved, merged, picked, pick_for}
 use Rattle.leveled.specs.Writing.{going, Gives}
 use Rattle.leveled.proofs.Kept.{none_kept}
 use Rattle.leveled.specs.Stretches.{stretches_tested}
@@ -144,18 +139,3 @@ module _ {K : Type 0} (cmp : K → K → Ordering) (s : Settings) (ts : List (Ta
 
   pub picked_nothing : None ≡ r → nothing ≡ picked cmp s ts hs l n (pick_for cmp s ts hs n)
   picked_nothing e = ap (picked cmp s ts hs l n) (e ∙ pick_is)
-
--- ---- all steps, where the settings are within their limits
-module _ {K : Type 0} (cmp : K → K → Ordering) (s : Settings) (ts : List (Table K)) (hs : List ℕ) (limits : in_limits s ≡ true) where
-  pub leveled_sinks : sinks cmp s ts hs ≡ true → naming Move 6 1 s.target_size (in_level 0) ts ≡ leveled cmp s ts hs
-  leveled_sinks h = sym (cond-true (sinks cmp s ts hs) _ _ h) ∙ sym (cond-true (in_limits s) _ _ limits)
-
-  module _ (stays : sinks cmp s ts hs ≡ false) (l : ℕ) (first : l ≡ first_level s ts hs) where
-    from : from_first cmp s ts hs l ≡ leveled cmp s ts hs
-    from = ap (from_first cmp s ts hs) first ∙ sym (cond-false (sinks cmp s ts hs) _ _ stays) ∙ sym (cond-true (in_limits s) _ _ limits)
-
-    pub leveled_slides : slides cmp s ts hs l ≡ true → naming Move l 1 s.target_size (in_level 0) ts ≡ leveled cmp s ts hs
-    leveled_slides h = sym (cond-true (slides cmp s ts hs l) _ _ h) ∙ from
-
-    pub leveled_won : slides cmp s ts hs l ≡ false → won cmp s ts hs l (chosen (scores s ts hs l)) ≡ leveled cmp s ts hs
-    leveled_won h = sym (cond-false (slides cmp s ts hs l) _ _ h) ∙ from

@@ -1,5 +1,5 @@
 -- The score of a level, case by case.
-use Rattle.std.proofs.Common.{◌≡◌, ℕ, zero, suc, ◌<◌, ◌≤◌, true, false, cond, not, ◌&&◌, eqb, leb, List, length, get_or, Some, None, Ordering, sym, refl, ap, ◌∙◌, inl, inr, arith}
+use Rattle.std.proofs.Common.{◌≡◌, ℕ, ◌<◌, ◌≤◌, true, false, cond, ◌&&◌, eqb, leb, List, length, get_or, Some, None, sym, refl, ap, ◌∙◌, inl, inr, arith}
 use lib.Ieee.{Float, nan, of_int, lt}
 use Rattle.std.proofs.lemmas.List.FromFn.{get_or-map-range_with_len}
 use Rattle.std.proofs.lemmas.List.Sums.{length-filter, count_by-le-length}
@@ -9,7 +9,7 @@ use Rattle.levels.specs.Scores.{double, none, winner, chosen}
 use Rattle.runs.specs.declared.table.Table.{Table}
 use Rattle.sheets.specs.Level.{size_of, in_level, level_of, count_of, free_of}
 use Rattle.sheets.proofs.Levels.{without_less, level_less}
-use Rattle.leveled.specs.Leveled.{score_of, scores, zero_won, picked, pick_for, won}
+use Rattle.leveled.specs.Leveled.{score_of, scores}
 use Rattle.leveled.specs.Laws.{wins_low}
 
 module _ {K : Type 0} (ts : List (Table K)) (n : ℕ) where
@@ -56,15 +56,3 @@ module _ {K : Type 0} (s : Settings) (ts : List (Table K)) (hs : List ℕ) (l n 
             absurd (both_ways _ (chosen_score (scores s ts hs l) n wins) (ap (λ x. lt x (double 1)) score ∙ none_below_one))
         | inr h ↦ (h, low)
       ]
-
--- ---- by the level that won
-module _ {K : Type 0} (cmp : K → K → Ordering) (s : Settings) (ts : List (Table K)) (hs : List ℕ) (l n : ℕ) (wins : Some n ≡ chosen (scores s ts hs l)) where
-  pub won_zero : n ≡ 0 → zero_won cmp s ts hs l ≡ won cmp s ts hs l (chosen (scores s ts hs l))
-  won_zero e = ap (λ k. won cmp s ts hs l (Some k)) (sym e) ∙ ap (won cmp s ts hs l) wins
-
-  level_won : (k : ℕ) → (k ≡ 0 → ⊥) → picked cmp s ts hs l k (pick_for cmp s ts hs k) ≡ won cmp s ts hs l (Some k)
-  level_won zero z = absurd (z refl)
-  level_won (suc k) z = refl
-
-  pub won_deeper : (n ≡ 0 → ⊥) → picked cmp s ts hs l n (pick_for cmp s ts hs n) ≡ won cmp s ts hs l (chosen (scores s ts hs l))
-  won_deeper z = level_won n z ∙ ap (won cmp s ts hs l) wins

@@ -1,7 +1,6 @@
--- What a survey's facts give: the tested sheet in words, and each level as it was looked up.
-use Rattle.std.proofs.Common.{◌||◌, ◌≡◌, ℕ, ◌+◌, ◌^◌, ◌<◌, ◌≤◌, Bool, true, false, List, [], ◌∷◌, ◌++◌, length, get_or, take, Ordering, sym, refl, ap, ◌∙◌, arith}
+-- What a survey's facts give: the tested sheet in words, and one table more that is looked at.
+use Rattle.std.proofs.Common.{◌||◌, ◌≡◌, ℕ, ◌+◌, ◌^◌, ◌<◌, ◌≤◌, Bool, true, false, List, [], ◌∷◌, ◌++◌, length, get_or, take, Ordering, sym, refl, ap, ◌∙◌}
 use Rattle.std.specs.List.{list_any}
-use Rattle.std.proofs.lemmas.List.FromFn.{get_or-map-range_with_len}
 use Rattle.std.proofs.lemmas.List.{take_more}
 use Rattle.keys.specs.KeyKind.{Laws}
 use Rattle.runs.specs.declared.table.Table.{Table}
@@ -9,8 +8,6 @@ use Rattle.sheets.specs.Level.{size_of, Stacked}
 use Rattle.sheets.specs.Sound.{Sound, tables_ok}
 use Rattle.sheets.proofs.Ascends.{sound_stacked}
 use Rattle.sheets.proofs.Soundness.{sound_from_test}
-use Rattle.leveled.specs.declared.holding.Holding.{Holding}
-use Rattle.leveled.specs.Holding.{held, levels_of}
 
 module _ {K : Type 0} {cmp : K → K → Ordering} (laws : Laws cmp) where
   -- tables that pass the test are sound, in a sheet of whatever room
@@ -22,10 +19,6 @@ module _ {K : Type 0} {cmp : K → K → Ordering} (laws : Laws cmp) where
 
   pub small_of : (ts : List (Table K)) → tables_ok cmp ts ≡ true → size_of ts ≤ 2 ^ 53
   small_of ts h = (sound_of ts h).ordered.total
-
--- a level that is read is what was looked up
-pub level_read : {K : Type 0} (hs : List ℕ) (ts : List (Table K)) (levels : List Holding) → levels ≡ levels_of hs ts → (n : ℕ) (d : Holding) → n < 7 → get_or levels n d ≡ held hs ts n
-level_read hs ts levels is n d h = ap (λ l. get_or l n d) is ∙ get_or-map-range_with_len (held hs ts) 0 7 n n d h (omega arith)
 
 -- ---- one more is looked at
 module _ {X : Type 0} (p : X → Bool) where

@@ -2,7 +2,6 @@
 use Rattle.std.specs.Prelude.{ℕ, List}
 use Rattle.levels.specs.declared.settings.Settings.{Settings}
 use Rattle.runs.specs.declared.table.Table.{Table}
-use Rattle.sheets.specs.HiddenSet.{hidden}
 use Rattle.leveled.specs.declared.survey.Survey.{Survey}
 
 module _ {K : Type 0} {k : _} where
@@ -13,4 +12,4 @@ module _ {K : Type 0} {k : _} where
   standing v = v.tables.now
 
   abbrev pub hides : Survey K k → List ℕ
-  hides v = hidden v.hidden_set.now
+  hides v = v.hidden_set.now

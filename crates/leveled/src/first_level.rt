@@ -6,6 +6,7 @@ ghost use Rattle.leveled.specs.Survey.{set_to, standing, hides};
 
 use crate::survey::Survey;
 use keys::key_kind::KeyKind;
+use sheets::sound::LAST_LEVEL;
 
 /// A level from 1 to 6, from which target sizes count.
 #[derive(Clone, Copy)]
@@ -42,7 +43,9 @@ impl<'a, K: KeyKind> Survey<'a, K> {
     pub fn first_non_empty_level(&self) -> FirstLevel
         ensures { result.n ≡ first_filled (standing self.now) deeper }
     {
-        let n = (1..6).find(|n| self.has_tables(*n)).unwrap_or(6);
+        let n = (1..LAST_LEVEL)
+            .find(|n| self.has_tables(*n))
+            .unwrap_or(LAST_LEVEL);
         FirstLevel { n }
     }
 
@@ -59,7 +62,7 @@ impl<'a, K: KeyKind> Survey<'a, K> {
         requires { first.n ≡ first_filled (standing self.now) deeper }
         ensures { result ≡ list_all (overfull (set_to self.now) (standing self.now) (hides self.now) first.n) deeper }
     {
-        (first.n..7).all(|n| self.is_overfull(first, n))
+        (first.n..LAST_LEVEL + 1).all(|n| self.is_overfull(first, n))
     }
 
     // Whether a level is empty, or has more free bytes than its target size.

@@ -1,10 +1,10 @@
 //! What the levels of a sheet hold.
 //! What is public here serves the survey, whose sheet is tested: hence the `requires`.
 ghost use Rattle.std.specs.Prelude.{◌≡◌, ◌^◌, ◌≤◌};
-ghost use Rattle.sheets.specs.HiddenSet.{hidden};
 ghost use Rattle.sheets.specs.Level.{size_of, Stacked};
 ghost use Rattle.leveled.specs.Holding.{holding_of, held, levels_of};
 
+use levels::scores::LEVELS;
 use runs::table::Table;
 use sheets::hidden_set::HiddenSet;
 use sheets::level::level;
@@ -22,10 +22,10 @@ pub struct Holding {
 }
 
 /// What each level holds.
-pub fn hold_levels<K>(tables: &[Table<K>], hidden_set: &HiddenSet) -> [Holding; 7]
+pub fn hold_levels<K>(tables: &[Table<K>], hidden_set: &HiddenSet) -> [Holding; LEVELS]
     requires stacked { Stacked tables.now }
     requires small { size_of tables.now ≤ 2 ^ 53 }
-    ensures { result ≡ levels_of (hidden hidden_set.now) tables.now }
+    ensures { result ≡ levels_of hidden_set.now tables.now }
 {
     array::from_fn(|n| hold_level(tables, n as u8, hidden_set))
 }
@@ -34,7 +34,7 @@ pub fn hold_levels<K>(tables: &[Table<K>], hidden_set: &HiddenSet) -> [Holding; 
 fn hold_level<K>(tables: &[Table<K>], n: u8, hidden_set: &HiddenSet) -> Holding
     requires stacked { Stacked tables.now }
     requires small { size_of tables.now ≤ 2 ^ 53 }
-    ensures { result ≡ held (hidden hidden_set.now) tables.now n }
+    ensures { result ≡ held hidden_set.now tables.now n }
 {
     hold(level(tables, n).tables, hidden_set)
 }
@@ -42,7 +42,7 @@ fn hold_level<K>(tables: &[Table<K>], n: u8, hidden_set: &HiddenSet) -> Holding
 // What the tables of a level hold. One pass: each table is looked up in the hidden set once.
 fn hold<K>(tables: &[Table<K>], hidden_set: &HiddenSet) -> Holding
     requires { size_of tables.now ≤ 2 ^ 53 }
-    ensures { result ≡ holding_of (hidden hidden_set.now) tables.now }
+    ensures { result ≡ holding_of hidden_set.now tables.now }
 {
     let mut free_bytes = 0;
     let mut is_busy = false;

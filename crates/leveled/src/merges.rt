@@ -1,6 +1,5 @@
 //! What is done with the level that won. What is public here serves the strategy, whose id sheet has room for all tables: hence the `requires`.
-ghost use Rattle.std.specs.Prelude.{◌≡◌, ◌+◌, ◌≤◌, length};
-ghost use Rattle.windows.specs.SliceWindows.{tables_of};
+ghost use Rattle.std.specs.Prelude.{◌≤◌, length};
 ghost use Rattle.leveled.specs.Leveled.{zero_won, picked, pick_for};
 ghost use Rattle.leveled.specs.Survey.{set_to, standing, hides};
 ghost use Rattle.leveled.specs.Writing.{Gives};
@@ -12,7 +11,6 @@ use keys::key_kind::KeyKind;
 use picks::pick::{Pick, pick_minimal_compaction};
 use runs::table::Table;
 use strategies::choice::Choice;
-use windows::slice_windows::Window;
 
 impl<'a, K: KeyKind> Survey<'a, K> {
     /// Level 0 won: it goes to the first level with what it meets there; nothing if either has a hidden table.
@@ -32,7 +30,7 @@ impl<'a, K: KeyKind> Survey<'a, K> {
             1,
             ids,
         );
-        if self.run_count == 1 && overlapping.len() == 0 {
+        if self.run_count == 1 && overlapping.is_empty() {
             Choice::Move(named)
         } else {
             Choice::Merge(named)
@@ -45,37 +43,24 @@ impl<'a, K: KeyKind> Survey<'a, K> {
         requires room { length (standing self.now) ≤ length ids.old }
         ensures { Gives (picked K.ranks (set_to self.now) (standing self.now) (hides self.now) first.n n (pick_for K.ranks (set_to self.now) (standing self.now) (hides self.now) n)) result ids.old ids.new }
     {
-        let curr = self.tables_of(n);
-        let next = self.tables_of(n + 1);
+        let upper = self.run_of(n);
+        let lower = self.run_of(n + 1);
+        let curr = upper.run.tables;
+        let next = lower.run.tables;
         let canonical_level = first.canonical(n + 1);
         let target_size = self.settings.target_size;
-        match pick_minimal_compaction(curr, next, self.hidden_set, target_size) {
+        match pick_minimal_compaction(upper, lower, self.hidden_set, target_size) {
             Some(Pick::Move(window)) => {
-                let moved = cut(curr, window);
-                Choice::Move(input(
-                    self.settings,
-                    moved,
-                    &moved[0..0],
-                    n + 1,
-                    canonical_level,
-                    ids,
-                ))
+                let moved = window.of(curr);
+                let none: &'a [Table<K>] = &[];
+                Choice::Move(input(self.settings, moved, none, n + 1, canonical_level, ids))
             }
             Some(Pick::Merge(merging)) => {
-                let covered = cut(curr, merging.curr);
-                let window = cut(next, merging.next);
+                let covered = merging.curr.of(curr);
+                let window = merging.next.of(next);
                 Choice::Merge(input(self.settings, covered, window, n + 1, canonical_level, ids))
             }
             None => Choice::DoNothing,
         }
     }
-}
-
-// The tables of a window.
-fn cut<K>(tables: &[Table<K>], window: Window) -> &[Table<K>]
-    requires { window.start + window.len ≤ length tables.now }
-    ensures { result.now ≡ tables_of window tables.now }
-{
-    let Window { start, len } = window;
-    &tables[start..start + len]
 }

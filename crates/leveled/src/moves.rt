@@ -11,6 +11,8 @@ use crate::first_level::FirstLevel;
 use crate::survey::Survey;
 use crate::writing::input;
 use keys::key_kind::KeyKind;
+use runs::table::Table;
+use sheets::sound::LAST_LEVEL;
 use strategies::choice::Choice;
 
 impl<'a, K: KeyKind> Survey<'a, K> {
@@ -19,7 +21,9 @@ impl<'a, K: KeyKind> Survey<'a, K> {
     pub fn sinks(&self) -> bool
         ensures { result ≡ sinks K.ranks (set_to self.now) (standing self.now) (hides self.now) }
     {
-        self.run_count == 1 && self.first_non_empty_level().n == 6 && !self.last_level_overlaps()
+        self.run_count == 1
+            && self.first_non_empty_level().n == LAST_LEVEL
+            && !self.last_level_overlaps()
     }
 
     /// Whether level 0 can move to the first level: it is one run, neither has a hidden table, and the first level has a table and meets level 0's span nowhere.
@@ -46,6 +50,7 @@ impl<'a, K: KeyKind> Survey<'a, K> {
         ensures { Gives (naming Move dest_level 1 (set_to self.now).target_size (in_level 0) (standing self.now)) result ids.old ids.new }
     {
         let tables = self.tables_of(0);
-        Choice::Move(input(self.settings, tables, &tables[0..0], dest_level, 1, ids))
+        let none: &'a [Table<K>] = &[];
+        Choice::Move(input(self.settings, tables, none, dest_level, 1, ids))
     }
 }

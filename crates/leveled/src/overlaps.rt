@@ -9,8 +9,9 @@ ghost use Rattle.leveled.specs.Survey.{set_to, standing, hides};
 use crate::survey::Survey;
 use keys::key_kind::KeyKind;
 use runs::run::aggregate;
-use runs::sorted_run::SortedRun;
 use runs::table::Table;
+use sheets::sound::LAST_LEVEL;
+use strategies::spans::spans_meet;
 
 impl<'a, K: KeyKind> Survey<'a, K> {
     /// Whether the spans of level 0 and level 6 meet. An empty level has none.
@@ -18,10 +19,8 @@ impl<'a, K: KeyKind> Survey<'a, K> {
         ensures { result ≡ spans_meet K.ranks (span_of K.ranks (λ t. t.range) (level_of 0 (standing self.now))) (span_of K.ranks (λ t. t.range) (level_of 6 (standing self.now))) }
     {
         let first = aggregate(self.tables_of(0));
-        let last = aggregate(self.tables_of(6));
-        first
-            .zip(last)
-            .is_some_and(|(a, b)| a.overlaps_with_key_range(&b))
+        let last = aggregate(self.tables_of(LAST_LEVEL));
+        spans_meet(first, last)
     }
 
     /// The tables of a level from 1 on that meet level 0's span: a stretch of the level.
@@ -29,10 +28,9 @@ impl<'a, K: KeyKind> Survey<'a, K> {
         requires deeper { 1 ≤ n }
         ensures { result.now ≡ filter (met K.ranks (set_to self.now) (standing self.now) (hides self.now) n) (standing self.now) }
     {
-        let run = self.tables_of(n);
         let Some(span) = aggregate(self.tables_of(0)) else {
-            return &run[0..0];
+            return &[];
         };
-        SortedRun { tables: run }.overlapping(&span).tables
+        self.run_of(n).run.overlapping(&span).tables
     }
 }

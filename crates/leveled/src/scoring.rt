@@ -5,12 +5,13 @@ ghost use Rattle.leveled.specs.Survey.{set_to, standing, hides};
 
 use crate::survey::Survey;
 use keys::key_kind::KeyKind;
-use levels::scores::{first_level_score, level_score};
+use levels::scores::{LEVELS, first_level_score, level_score};
+use sheets::sound::LAST_LEVEL;
 use std::array;
 
 impl<'a, K: KeyKind> Survey<'a, K> {
     /// The scores of the seven levels, where target sizes count from the level `first`. It serves the steps, whose first level is above 0: hence the `requires`.
-    pub fn scores(&self, first: u8) -> [f64; 7]
+    pub fn scores(&self, first: u8) -> [f64; LEVELS]
         requires first { 1 ≤ first }
         ensures { result ≡ scores (set_to self.now) (standing self.now) (hides self.now) first }
     {
@@ -27,7 +28,7 @@ impl<'a, K: KeyKind> Survey<'a, K> {
         if n == 0 {
             return first_level_score(self.level(0).table_count, self.settings.threshold);
         }
-        if n < first || n > 5 {
+        if n < first || n >= LAST_LEVEL {
             return 0.0;
         }
         let target_size = self.settings.level_target_size(n - (first - 1));

@@ -3,14 +3,16 @@
 ghost use Rattle.std.specs.Prelude.{◌≡◌, ◌^◌, ◌<◌, ◌≤◌, true, length};
 ghost use Rattle.levels.specs.Settings.{in_limits};
 ghost use Rattle.runs.specs.Run.{sorted};
-ghost use Rattle.sheets.specs.HiddenSet.{hidden};
 ghost use Rattle.sheets.specs.Level.{size_of, level_of, filled, runs};
 ghost use Rattle.sheets.specs.Sound.{tables_ok};
 ghost use Rattle.leveled.specs.Holding.{held, levels_of};
 
 use crate::holding::{Holding, hold_levels};
 use keys::key_kind::KeyKind;
+use levels::scores::LEVELS;
 use levels::settings::Settings;
+use picks::level_run::LevelRun;
+use runs::sorted_run::SortedRun;
 use runs::table::Table;
 use sheets::hidden_set::HiddenSet;
 use sheets::level::{level, run_count};
@@ -24,12 +26,12 @@ pub struct Survey<'a, K: KeyKind> {
     pub hidden_set: &'a HiddenSet,
     /// How many runs level 0 has.
     pub run_count: usize,
-    pub levels: [Holding; 7],
+    pub levels: [Holding; LEVELS],
     ghost limits: { in_limits settings.now ≡ true },
     ghost sound: { tables_ok K.ranks tables.now ≡ true },
     ghost few: { length tables.now ≤ 1024 },
     ghost runs_are: { run_count ≡ runs tables.now },
-    ghost levels_are: { levels ≡ levels_of (hidden hidden_set.now) tables.now },
+    ghost levels_are: { levels ≡ levels_of hidden_set.now tables.now },
 }
 
 impl<'a, K: KeyKind> Survey<'a, K> {
@@ -44,7 +46,7 @@ impl<'a, K: KeyKind> Survey<'a, K> {
         requires few { length tables.now ≤ 1024 }
         ensures settings { result.settings.now ≡ settings.now }
         ensures tables { result.tables.now ≡ tables.now }
-        ensures hidden { hidden result.hidden_set.now ≡ hidden hidden_set.now }
+        ensures hidden { result.hidden_set.now ≡ hidden_set.now }
     {
         Survey {
             settings,
@@ -58,7 +60,7 @@ impl<'a, K: KeyKind> Survey<'a, K> {
     /// What level `n` holds.
     pub fn level(&self, n: u8) -> Holding
         requires { n < 7 }
-        ensures { result ≡ held (hidden self.now.hidden_set.now) self.now.tables.now n }
+        ensures { result ≡ held self.now.hidden_set.now self.now.tables.now n }
     {
         self.levels[n as usize]
     }
@@ -79,5 +81,17 @@ impl<'a, K: KeyKind> Survey<'a, K> {
         ensures few { length result.now ≤ 1024 }
     {
         level(self.tables, n).tables
+    }
+
+    /// Level `n`, from 1 on, as a run to pick from.
+    pub fn run_of(&self, n: u8) -> LevelRun<'a, Table<K>>
+        requires { 1 ≤ n }
+        ensures { result.run.tables.now ≡ level_of n self.now.tables.now }
+    {
+        LevelRun {
+            run: SortedRun {
+                tables: self.tables_of(n),
+            },
+        }
     }
 }

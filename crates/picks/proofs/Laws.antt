@@ -42,22 +42,17 @@ module _ {K T : Type 0} (cmp : K → K → Ordering) (spans : T → KeyRange K) 
   pub pick_law : PickLaw cmp spans bytes named hs curr next target (pick cmp spans bytes named hs curr next target)
   pick_law = at_move (longest_movable cmp spans named hs curr next) (longest_best ok (length curr))
 
-  -- what a function owes that answers with the pick
-  pub record Told (r : Option Pick) : Type 0 where
-    pub picks : r ≡ pick cmp spans bytes named hs curr next target
-    pub law : PickLaw cmp spans bytes named hs curr next target r
-
-  told : (r : Option Pick) → r ≡ pick cmp spans bytes named hs curr next target → Told r
-  told r e = record { picks = e; law = subst (λ (x : Option Pick). PickLaw cmp spans bytes named hs curr next target x) (sym e) pick_law }
+  law_of : (r : Option Pick) → r ≡ pick cmp spans bytes named hs curr next target → PickLaw cmp spans bytes named hs curr next target r
+  law_of r e = subst (λ (x : Option Pick). PickLaw cmp spans bytes named hs curr next target x) (sym e) pick_law
 
   same_merge : (o : Option Window) → option_map Merge (option_map (merging cmp spans curr next bytes) o) ≡ merge_or_nothing cmp spans bytes named hs curr next target o
   same_merge None = refl
   same_merge (Some w) = refl
 
-  -- the answers of the two searches make the pick
-  pub told_move : (w : Window) → Some w ≡ longest_movable cmp spans named hs curr next → Told (Some (Move w))
-  told_move w e = told (Some (Move w)) (ap (move_or_merge cmp spans bytes named hs curr next target) e)
+  -- the answers of the two searches keep the promise
+  pub move_law : (w : Window) → Some w ≡ longest_movable cmp spans named hs curr next → PickLaw cmp spans bytes named hs curr next target (Some (Move w))
+  move_law w e = law_of (Some (Move w)) (ap (move_or_merge cmp spans bytes named hs curr next target) e)
 
-  pub told_rest : (m : Option Merging) → None ≡ longest_movable cmp spans named hs curr next → m ≡ option_map (merging cmp spans curr next bytes) (cheapest_merge cmp spans bytes named hs curr next target) → Told (option_map Merge m)
-  told_rest m e f =
-      told (option_map Merge m) (ap (option_map Merge) f ∙ same_merge (cheapest_merge cmp spans bytes named hs curr next target) ∙ ap (move_or_merge cmp spans bytes named hs curr next target) e)
+  pub rest_law : (m : Option Merging) → None ≡ longest_movable cmp spans named hs curr next → m ≡ option_map (merging cmp spans curr next bytes) (cheapest_merge cmp spans bytes named hs curr next target) → PickLaw cmp spans bytes named hs curr next target (option_map Merge m)
+  rest_law m e f =
+      law_of (option_map Merge m) (ap (option_map Merge) f ∙ same_merge (cheapest_merge cmp spans bytes named hs curr next target) ∙ ap (move_or_merge cmp spans bytes named hs curr next target) e)

@@ -1,5 +1,6 @@
 pub mod Edges
 pub mod Fronts
+pub mod LevelEdges
 pub mod Marks
 pub mod Merge
 pub mod Movable

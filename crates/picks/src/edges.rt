@@ -1,6 +1,6 @@
 //! The two edges of a window of the next level: the fronts of both levels there. What lies between the edges is the window with what it contains.
 ghost use Rattle.std.specs.Prelude.{◌≡◌, ◌<◌, length};
-ghost use Rattle.picks.specs.Edges.{left_of, right_of, LeftFrom, Light, Shortest};
+ghost use Rattle.picks.specs.LevelEdges.{left_edge_of, right_edge_of, StartsBefore, WeighsNothing, IsShortest};
 
 use crate::fronts::Front;
 use crate::marked_run::MarkedRun;
@@ -23,12 +23,12 @@ pub struct Edge {
 impl<'a, T: TableFile> Levels<'a, T> {
     /// The edge on the left of the windows that start at a place: what stands before the place, and what begins before its table does.
     pub fn left_edge(&self, from: Edge, start: usize) -> Edge
-        requires within { start < length self.now.next.run.tables.now }
-        requires starts { LeftFrom T.Key.ranks T.spans self.now.curr.run.tables.now self.now.next.run.tables.now T.bytes self.now.curr.marks self.now.next.marks start from }
-        ensures { result ≡ left_of T.Key.ranks T.spans self.now.curr.run.tables.now self.now.next.run.tables.now T.bytes self.now.curr.marks self.now.next.marks start }
+        requires within { start < length self.now.next.level.run.tables.now }
+        requires starts { StartsBefore self.now start from }
+        ensures { result ≡ left_edge_of self.now start }
     {
-        let first = self.next.run.tables[start].key_range();
-        let begun = self.curr.run.begun_before(&first.min);
+        let first = self.next.level.run.tables[start].key_range();
+        let begun = self.curr.level.run.begun_before(&first.min);
         Edge {
             next: from.next.advanced(&self.next, start),
             curr: from.curr.advanced(&self.curr, begun),
@@ -38,19 +38,19 @@ impl<'a, T: TableFile> Levels<'a, T> {
     /// The edge on the right of the shortest window from a left edge whose contained tables weigh anything, or else of the longest one.
     /// No shorter one has anything to merge; a longer one never gets cheaper, and what bars the shortest bars it.
     pub fn right_edge(&self, from: Edge, left: Edge) -> Edge
-        requires within { left.next.at < length self.now.next.run.tables.now }
-        requires left { left ≡ left_of T.Key.ranks T.spans self.now.curr.run.tables.now self.now.next.run.tables.now T.bytes self.now.curr.marks self.now.next.marks left.next.at }
-        requires starts { (from ≡ right_of T.Key.ranks T.spans self.now.curr.run.tables.now self.now.next.run.tables.now T.bytes self.now.curr.marks self.now.next.marks from.next.at) × (Light T.Key.ranks T.spans self.now.curr.run.tables.now self.now.next.run.tables.now T.bytes self.now.curr.marks self.now.next.marks left.next.at from.next.at) }
-        ensures edge { result ≡ right_of T.Key.ranks T.spans self.now.curr.run.tables.now self.now.next.run.tables.now T.bytes self.now.curr.marks self.now.next.marks result.next.at }
-        ensures shortest { Shortest T.Key.ranks T.spans self.now.curr.run.tables.now self.now.next.run.tables.now T.bytes self.now.curr.marks self.now.next.marks left.next.at result.next.at }
+        requires within { left.next.at < length self.now.next.level.run.tables.now }
+        requires left { left ≡ left_edge_of self.now left.next.at }
+        requires starts { (from ≡ right_edge_of self.now from.next.at) × (WeighsNothing self.now left.next.at from.next.at) }
+        ensures edge { result ≡ right_edge_of self.now result.next.at }
+        ensures shortest { IsShortest self.now left.next.at result.next.at }
     {
-        let next = self.next.run.tables;
+        let next = self.next.level.run.tables;
         let mut end = from.next;
         let mut high = from.curr;
         // the end starts where that of the window before ended, and goes on from there
         while end.at <= left.next.at || (high.sum <= left.curr.sum && end.at < next.len()) {
             let last = next[end.at].key_range();
-            let reach = self.curr.run.ended_by(&last.max);
+            let reach = self.curr.level.run.ended_by(&last.max);
             high = high.advanced(&self.curr, reach);
             end = end.advanced(&self.next, end.at + 1);
         }

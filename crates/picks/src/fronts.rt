@@ -15,13 +15,13 @@ pub struct Front {
 
 impl Front {
     /// The front of a run that reaches from here to a place behind.
-    pub fn advanced<T: TableFile>(self, level: &MarkedRun<'_, T>, to: usize) -> Front
-        requires behind { (self.at ≤ to) × (to ≤ length level.now.run.tables.now) }
-        requires here { self ≡ front T.bytes level.now.run.tables.now level.now.marks self.at }
-        ensures { result ≡ front T.bytes level.now.run.tables.now level.now.marks to }
+    pub fn advanced<T: TableFile>(self, marked: &MarkedRun<'_, T>, to: usize) -> Front
+        requires behind { (self.at ≤ to) × (to ≤ length marked.now.level.run.tables.now) }
+        requires here { self ≡ front T.bytes marked.now.level.run.tables.now marked.now.marks self.at }
+        ensures { result ≡ front T.bytes marked.now.level.run.tables.now marked.now.marks to }
     {
-        let bytes = size(&level.run.tables[self.at..to]);
-        let count = count_hidden(&level.marks[self.at..to]);
+        let bytes = size(&marked.level.run.tables[self.at..to]);
+        let count = count_hidden(&marked.marks[self.at..to]);
         Front {
             at: to,
             sum: self.sum + bytes,

@@ -3,6 +3,7 @@
 
 mod edges;
 mod fronts;
+pub mod level_run;
 mod marked_run;
 pub mod merge;
 mod movable;

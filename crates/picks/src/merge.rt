@@ -1,13 +1,14 @@
 //! The merge with the fewest bytes.
-ghost use Rattle.std.specs.Prelude.{◌≡◌, ℕ, ◌^◌, ◌≤◌, List};
-ghost use Rattle.std.specs.Option.{option_map};
+ghost use Rattle.std.specs.Prelude.{◌≡◌, ◌^◌, ◌≤◌};
 ghost use Rattle.picks.specs.Edges.{allowed, merged, Opens, sooner as better};
-ghost use Rattle.picks.specs.Marks.{Marked};
-ghost use Rattle.picks.specs.Merge.{cheapest_merge, merging};
+ghost use Rattle.picks.specs.LevelEdges.{IsCheapest};
 
 use crate::edges::{Edge, Levels};
 use runs::ranged::TableFile;
 use windows::slice_windows::Window;
+
+// How many target sizes the window of a merge may weigh.
+const MOST_TARGETS: u64 = 50;
 
 /// A merge of a window of the next level with the tables of the level that it contains, and the bytes of both.
 #[derive(Clone, Copy)]
@@ -21,13 +22,13 @@ impl<'a, T: TableFile> Levels<'a, T> {
     // The admissible window of the next level with the fewest bytes, the first in the order of reading among equals, for the hidden numbers that the marks were made from.
     pub(crate) fn cheapest_merge(&self, target_size: u64) -> Option<Merging>
         requires target_small { target_size ≤ 2 ^ 40 }
-        ensures { (hs : List ℕ) → Marked T.named hs self.now.curr.run.tables.now self.now.curr.marks → Marked T.named hs self.now.next.run.tables.now self.now.next.marks → result ≡ option_map (merging T.Key.ranks T.spans self.now.curr.run.tables.now self.now.next.run.tables.now T.bytes) (cheapest_merge T.Key.ranks T.spans T.bytes T.named hs self.now.curr.run.tables.now self.now.next.run.tables.now target_size) }
+        ensures { IsCheapest self.now target_size result }
     {
-        let cap = 50 * target_size;
+        let cap = MOST_TARGETS * target_size;
         let mut left = Edge::default();
         let mut right = left;
         let mut best = None;
-        for start in 0..self.next.run.tables.len() {
+        for start in 0..self.next.level.run.tables.len() {
             left = self.left_edge(left, start);
             right = self.right_edge(right, left);
             if is_allowed(cap, left, right) {
@@ -71,14 +72,6 @@ fn merge_between(left: Edge, right: Edge) -> Merging
 fn sooner(best: Option<Merging>, found: Merging) -> Option<Merging>
     ensures { result ≡ better best found }
 {
-    match best {
-        None => Some(found),
-        Some(b) => {
-            if found.bytes < b.bytes || (found.bytes == b.bytes && found.next.len < b.next.len) {
-                Some(found)
-            } else {
-                Some(b)
-            }
-        }
-    }
+    best.filter(|b| (b.bytes, b.next.len) <= (found.bytes, found.next.len))
+        .or(Some(found))
 }

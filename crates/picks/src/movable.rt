@@ -12,12 +12,12 @@ impl<'a, T: TableFile> MarkedRun<'a, T> {
     /// The longest window without a hidden table whose span meets nothing of the next level, the leftmost among equals.
     /// The answer holds for the hidden numbers that the marks were made from.
     pub fn longest_movable(&self, next: &SortedRun<'_, T>) -> Option<Window>
-        ensures { (hs : List ℕ) → Marked T.named hs self.now.run.tables.now self.now.marks → result ≡ longest_movable T.Key.ranks T.spans T.named hs self.now.run.tables.now next.now.tables.now }
+        ensures { (hs : List ℕ) → Marked T.named hs self.now.level.run.tables.now self.now.marks → result ≡ longest_movable T.Key.ranks T.spans T.named hs self.now.level.run.tables.now next.now.tables.now }
     {
         let mut from = 0;
         let mut gap = 0;
         let mut best: Option<Window> = None;
-        for (i, table) in self.run.tables.iter().enumerate() {
+        for (i, table) in self.level.run.tables.iter().enumerate() {
             let range = table.key_range();
             let before = next.ended_before(&range.min);
             let upto = next.begun_by(&range.max);
@@ -41,14 +41,5 @@ impl<'a, T: TableFile> MarkedRun<'a, T> {
 fn longer(best: Option<Window>, found: Window) -> Option<Window>
     ensures { result ≡ longer best found }
 {
-    match best {
-        None => Some(found),
-        Some(b) => {
-            if b.len < found.len {
-                Some(found)
-            } else {
-                Some(b)
-            }
-        }
-    }
+    best.filter(|b| b.len >= found.len).or(Some(found))
 }

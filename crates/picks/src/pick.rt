@@ -3,17 +3,15 @@
 //! A window is a stretch of neighbours in a run. A window of the level is movable if none of its tables is hidden and no table of the next level meets its span.
 //! A window of the next level is admissible if its sum is at most 50 target sizes, nothing in it is hidden, and the tables of the level that lie inside its span
 //! have a sum above 0 and none of them is hidden. All of its windows are read, length 1 from the left, then 2 and on: one that is too large does not end the reading.
-ghost use Rattle.std.specs.Prelude.{◌≡◌, ◌^◌, ◌≤◌, true, length, sum_by};
-ghost use Rattle.runs.specs.Run.{sorted};
-ghost use Rattle.sheets.specs.HiddenSet.{hidden};
+ghost use Rattle.std.specs.Prelude.{◌≡◌, ◌^◌, ◌≤◌};
 ghost use Rattle.picks.specs.Pick.{pick};
 ghost use Rattle.picks.specs.PickLaw.{PickLaw};
 
 use crate::edges::Levels;
+use crate::level_run::LevelRun;
 use crate::marked_run::MarkedRun;
 use crate::merge::Merging;
 use runs::ranged::TableFile;
-use runs::sorted_run::SortedRun;
 use sheets::hidden_set::HiddenSet;
 use windows::slice_windows::Window;
 
@@ -27,26 +25,19 @@ pub enum Pick {
 }
 
 /// The longest movable window, the leftmost among equals; else the admissible window with the fewest bytes, the first that is read among equals; else nothing.
-/// It serves the crates above, which have tested the sheet that both runs come from: hence the `requires`.
+/// It serves the crates above, which have tested the settings: hence the `requires`.
 pub fn pick_minimal_compaction<T: TableFile>(
-    curr: &[T],
-    next: &[T],
+    curr: LevelRun<'_, T>,
+    next: LevelRun<'_, T>,
     hidden_set: &HiddenSet,
     target_size: u64,
 ) -> Option<Pick>
-    requires curr_sorted { sorted T.Key.ranks T.spans curr.now ≡ true }
-    requires next_sorted { sorted T.Key.ranks T.spans next.now ≡ true }
-    requires curr_small { sum_by T.bytes curr.now ≤ 2 ^ 53 }
-    requires next_small { sum_by T.bytes next.now ≤ 2 ^ 53 }
     requires target_small { target_size ≤ 2 ^ 40 }
-    requires curr_few { length curr.now ≤ 1024 }
-    requires next_few { length next.now ≤ 1024 }
-    ensures picks { result ≡ pick T.Key.ranks T.spans T.bytes T.named (hidden hidden_set.now) curr.now next.now target_size }
-    ensures law { PickLaw T.Key.ranks T.spans T.bytes T.named (hidden hidden_set.now) curr.now next.now target_size result }
+    ensures picks { result ≡ pick T.Key.ranks T.spans T.bytes T.named hidden_set.now curr.entry.run.tables.now next.entry.run.tables.now target_size }
+    ensures law { PickLaw T.Key.ranks T.spans T.bytes T.named hidden_set.now curr.entry.run.tables.now next.entry.run.tables.now target_size result }
 {
-    let curr = MarkedRun::new(SortedRun { tables: curr }, hidden_set);
-    let next = SortedRun { tables: next };
-    if let Some(window) = curr.longest_movable(&next) {
+    let curr = MarkedRun::new(curr, hidden_set);
+    if let Some(window) = curr.longest_movable(&next.run) {
         return Some(Pick::Move(window));
     }
     let next = MarkedRun::new(next, hidden_set);

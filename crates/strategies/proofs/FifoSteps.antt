@@ -1,5 +1,5 @@
 -- What FIFO answers, by the tests that come before.
-use Rattle.std.proofs.Common.{◌≡◌, ℕ, suc, ◌+◌, ◌-◌, ◌<◌, ◌≤◌, Bool, true, false, cond, not, ◌&&◌, ◌||◌, eqb, ltb, List, [], ◌∷◌, length, Some, None, filter, sym, refl, ap, ◌∙◌, arith}
+use Rattle.std.proofs.Common.{◌≡◌, ℕ, suc, ◌+◌, ◌-◌, ◌<◌, ◌≤◌, Bool, true, false, cond, not, ◌||◌, eqb, ltb, List, [], ◌∷◌, length, Some, None, filter, sym, refl, ap, ◌∙◌, arith}
 use Rattle.std.specs.List.{list_any, position, position_or_len}
 use Rattle.std.proofs.lemmas.List.{length-map}
 use Rattle.std.proofs.lemmas.List.Recursion.{is_position_or_len}
@@ -12,7 +12,7 @@ use Rattle.sheets.proofs.Levels.{filled_is}
 use Rattle.strategies.specs.declared.choice.Kind.TheVariants.{Drop}
 use Rattle.strategies.specs.declared.declined.Declined.TheVariants.{ManyRuns, HiddenTable}
 use Rattle.strategies.specs.Answer.{Answer, nothing, declines, naming}
-use Rattle.strategies.specs.Fifo.{place_of, hidden_first, expired, left_over, older_weight, goes, fifo}
+use Rattle.strategies.specs.Fifo.{place_of, hidden_first, left_over, goes, fifo}
 
 -- some pass where something is kept
 some_is : {X : Type 0} (p : X → Bool) (xs : List X) → list_any p xs ≡ ltb 0 (length (filter p xs))
@@ -34,14 +34,6 @@ inside_is p (x ∷ xs) =
 
 pub position_is : {X : Type 0} (p : X → Bool) (xs : List X) → position p xs ≡ cond (list_any p xs) (Some (place_of p xs)) None
 position_is p xs = ap (λ n. cond (ltb n (length xs)) (Some n) None) (place_is p xs) ∙ ap (λ b. cond b (Some (place_of p xs)) None) (inside_is p xs)
-
--- a table of level 0 that has not expired goes by what is left
-pub goes_is : {K : Type 0} (ttl clock limit left : ℕ) (ts : List (Table K)) (t : Table K) → t.level ≤ 0 → false ≡ expired ttl clock t → (excess : ℕ) → excess ≡ left - limit
-    → ltb (older_weight ttl clock ts t) excess ≡ goes ttl clock limit left ts t
-goes_is ttl clock limit left ts t h e excess x =
-    let zero : in_level 0 t ≡ true = grind (arith, nat_tests) in
-    let more : ltb (older_weight ttl clock ts t) excess ≡ ltb (limit + older_weight ttl clock ts t) left = grind (arith, nat_tests) in
-    more ∙ ap (λ b. b || ltb (limit + older_weight ttl clock ts t) left) e ∙ ap (λ b. b && (expired ttl clock t || ltb (limit + older_weight ttl clock ts t) left)) (sym zero)
 
 -- what an answer with a place says of the test
 found : (b : Bool) (m n : ℕ) → Some m ≡ cond b (Some n) None → (b ≡ true) × (m ≡ n)

@@ -1,9 +1,6 @@
 -- The steps of a loop that takes the weight of the tables that pass a test off a number, down to 0.
-use Rattle.std.proofs.Common.{◌≡◌, ℕ, ◌+◌, ◌-◌, ◌<◌, ◌≤◌, Bool, true, false, cond, ltb, List, ◌∷◌, length, get_or, drop, sum_by, filter, sym, ap, ◌∙◌, arith}
-use Rattle.std.proofs.lemmas.List.{drop_all}
+use Rattle.std.proofs.Common.{◌≡◌, ℕ, ◌+◌, ◌-◌, ◌<◌, Bool, true, false, cond, List, [], ◌∷◌, length, get_or, drop, fold, sum_by, filter, ap, ◌∙◌, arith}
 use Rattle.std.proofs.lemmas.List.Sums.{sum_by-cons}
-use Rattle.std.proofs.lemmas.Bool.{le-ltb}
-use Rattle.std.proofs.lemmas.Bool.Decides.{nat_tests}
 use Rattle.runs.specs.declared.table.Table.{Table}
 use Rattle.runs.proofs.Sorteds.{drop_read}
 use Rattle.strategies.specs.Fifo.{weight}
@@ -11,6 +8,11 @@ use Rattle.strategies.specs.Fifo.{weight}
 -- the weight of those that pass
 abbrev pub burden : {K : Type 0} → (Table K → Bool) → List (Table K) → ℕ
 burden p us = sum_by weight (filter p us)
+
+-- taken off one table after another, all of their weight is
+pub taken_from : {K : Type 0} (whole : ℕ) (us : List (Table K)) → fold (λ left (t : Table K). (left - t.size) - t.linked) whole us ≡ whole - sum_by weight us
+taken_from whole [] = omega arith
+taken_from whole (t ∷ us) = omega (arith, taken_from ((whole - t.size) - t.linked) us, sum_by-cons weight t us)
 
 module _ {K : Type 0} (p : Table K → Bool) (ts : List (Table K)) where
   -- before place i: `left` is what is left of `whole`
@@ -34,14 +36,3 @@ module _ {K : Type 0} (p : Table K → Bool) (ts : List (Table K)) where
         let kept : filter p (drop i ts) ≡ filter p (drop (i + 1) ts) =
         ap (filter p) rest ∙ ap (λ b. cond b (t ∷ filter p (drop (i + 1) ts)) (filter p (drop (i + 1) ts))) e in
         omega (arith, h, ap (sum_by weight) kept)
-
-  pub take_all : (whole left i : ℕ) → length ts ≤ i → Taking whole left i → left ≡ whole - burden p ts
-  take_all whole left i le h = omega (arith, h, ap (burden p) (drop_all i ts le))
-
--- something is left where less was taken off
-pub less_is : (whole w : ℕ) → ltb 0 (whole - w) ≡ ltb w whole
-less_is whole w = grind (arith, nat_tests)
-
--- and nothing is left where not less was
-pub less_none : {K : Type 0} (p : Table K → Bool) (ts : List (Table K)) (whole left i : ℕ) → left ≡ 0 → Taking p ts whole left i → false ≡ ltb (burden p ts) whole
-less_none p ts whole left i e h = sym (le-ltb _ _ (omega (arith, e, h)))

@@ -1,17 +1,12 @@
 -- What an answer says of the tables that pass a test, p, and what it writes into the id sheet.
-use Rattle.std.specs.Prelude.{◌≡◌, ℕ, ◌^◌, Bool, cond, List, length, Ok, Err, filter, Result, nat_le}
-use denote.Ref.{Bor}
-use Rattle.std.specs.Fn.{Shared, FnReturnsAt}
+use Rattle.std.specs.Prelude.{ℕ, ◌^◌, Bool, cond, List, length, Ok, Err, filter, Result, nat_le}
 use Rattle.refusals.specs.declared.refusal.Refusal.{Refusal}
 use Rattle.refusals.specs.declared.refusal.Refusal.TheVariants.{NotSound, IdsTooShort}
 use Rattle.runs.specs.declared.table.Table.{Table}
 use Rattle.sheets.specs.Edits.{laid}
 use Rattle.sheets.specs.Level.{numbers_of, size_of}
+pub use Rattle.sheets.specs.Tests.{Tests}
 use Rattle.strategies.specs.declared.naming.Named.{Named}
-
--- f, a test of tables, answers what p says
-abbrev pub Tests : {K F : Type 0} → Shared F (Bor (Table K) × Unit {0}) Bool → F → (Table K → Bool) → Type 0
-Tests {K} g f p = (t : Table K) (b : Bool) → FnReturnsAt g f t b → b ≡ p t
 
 module _ {K : Type 0} (p : Table K → Bool) (ts : List (Table K)) where
   -- how many pass, and their bytes

@@ -1,6 +1,5 @@
 //! FIFO: tables leave by age, in the order in which they came.
 ghost use Rattle.std.specs.Prelude.{◌≡◌, position};
-ghost use Rattle.sheets.specs.HiddenSet.{hidden};
 ghost use Rattle.strategies.specs.Fifo.{hidden_first, expired, expired_first, live, left_over, fifo};
 ghost use Rattle.strategies.specs.Laws.{fifo_lawful};
 
@@ -61,19 +60,21 @@ impl FifoSettings {
     fn left_over<K: KeyKind>(&self, snapshot: &Snapshot<'_, K>) -> u64
         ensures { result ≡ left_over self.now.ttl_seconds snapshot.now.clock snapshot.now.blob_total snapshot.now.tables.now }
     {
-        let mut left = size(level(snapshot.tables, 0).tables) + snapshot.blob_total;
-        for t in snapshot.tables {
-            if self.is_due(t, snapshot.clock) {
-                left = left.saturating_sub(t.size).saturating_sub(t.linked);
-            }
-        }
-        left
+        let whole = size(level(snapshot.tables, 0).tables) + snapshot.blob_total;
+        snapshot
+            .tables
+            .iter()
+            .filter(|t| self.is_due(t, snapshot.clock))
+            .fold(
+                whole,
+                |left, t| left.saturating_sub(t.size).saturating_sub(t.linked),
+            )
     }
 }
 
 // The place of the first hidden table of level 0.
 fn first_hidden<K>(tables: &[Table<K>], hidden_set: &HiddenSet) -> Option<usize>
-    ensures { result ≡ position (hidden_first (hidden hidden_set.now)) tables.now }
+    ensures { result ≡ position (hidden_first hidden_set.now) tables.now }
 {
     tables
         .iter()

@@ -10,4 +10,5 @@ pub mod naming;
 pub mod outgoing;
 pub mod question;
 pub mod snapshot;
+pub mod spans;
 pub mod strategy;

@@ -3,19 +3,18 @@ ghost use Rattle.std.specs.Prelude.{◌≡◌, ◌+◌, ◌^◌, ◌<◌, ◌≤
 ghost use Rattle.std.specs.List.{list_any};
 ghost use Rattle.runs.specs.declared.table.Table.{Table};
 ghost use Rattle.sheets.specs.Edits.{laid};
-ghost use Rattle.sheets.specs.HiddenSet.{hidden};
 ghost use Rattle.sheets.specs.Level.{numbers_of, size_of};
 ghost use Rattle.sheets.specs.Tables.{named as hides};
-ghost use Rattle.strategies.specs.Naming.{Tests, passing, weighed, named, written};
+ghost use Rattle.strategies.specs.Naming.{Tests, passing, named, written};
 
 use keys::key_kind::KeyKind;
 use refusals::refusal::Refusal;
+use runs::sizes::{MOST_BYTES, total_size};
 use runs::table::Table;
 use sheets::hidden_set::HiddenSet;
-use sheets::sound::MOST_BYTES;
 
 /// How many tables are named, and the sum of their sizes. Their numbers are in the id sheet.
-#[derive(Clone, Copy)]
+#[derive(Clone, Copy, Default)]
 pub struct Named {
     pub count: usize,
     pub bytes: u64,
@@ -34,9 +33,6 @@ impl Named {
     }
 }
 
-// No table is named.
-const NONE: Named = Named { count: 0, bytes: 0 };
-
 /// A test of tables that is a type of its own: a call takes it without a `requires`, which a closure would need.
 pub trait Picks<K: KeyKind> {
     // Whether a table passes.
@@ -47,20 +43,11 @@ pub trait Picks<K: KeyKind> {
         ensures { result ≡ passes self.now table.now };
 }
 
-// How many tables pass, and their bytes; refused where all the sizes together are above the limit.
-fn weigh<K, F: Fn(&Table<K>) -> bool>(tables: &[Table<K>], test: &F) -> Result<Named, Refusal>
-    requires { F.IsAlwaysCallable test.now }
-    ensures { (p : Table K → Bool) → Tests F.Fn test.now p → result ≡ weighed p tables.now }
+// How many tables pass.
+fn count_passing<K: KeyKind, P: Picks<K>>(tables: &[Table<K>], test: &P) -> usize
+    ensures { result ≡ length (numbers_of (filter (P.Picks.passes test.now) tables.now)) }
 {
-    let mut left = MOST_BYTES;
-    let mut named = NONE;
-    for t in tables {
-        left = left.checked_sub(t.size).ok_or(Refusal::NotSound)?;
-        if test(t) {
-            named.add(t);
-        }
-    }
-    Ok(named)
+    tables.iter().filter(|t| test.picks(t)).count()
 }
 
 /// Whether one of the tables that pass is hidden.
@@ -69,26 +56,11 @@ pub fn has_hidden_passing<K: KeyKind, P: Picks<K>>(
     test: &P,
     hidden_set: &HiddenSet,
 ) -> bool
-    ensures { result ≡ list_any (λ t. P.Picks.passes test.now t && hides (hidden hidden_set.now) t) tables.now }
+    ensures { result ≡ list_any (λ t. P.Picks.passes test.now t && hides hidden_set.now t) tables.now }
 {
-    any_hidden(tables, |t| test.picks(t), hidden_set)
-}
-
-// Whether one of the tables that pass is hidden.
-fn any_hidden<K, F: Fn(&Table<K>) -> bool>(
-    tables: &[Table<K>],
-    test: F,
-    hidden_set: &HiddenSet,
-) -> bool
-    requires { F.IsAlwaysCallable test }
-    ensures { (p : Table K → Bool) → Tests F.Fn test p → result ≡ list_any (λ t. p t && hides (hidden hidden_set.now) t) tables.now }
-{
-    for t in tables {
-        if test(t) && hidden_set.is_hidden(t.number) {
-            return true;
-        }
-    }
-    false
+    tables
+        .iter()
+        .any(|t| test.picks(t) && hidden_set.is_hidden(t.number))
 }
 
 /// Names the tables that pass, in an id sheet with a place for each, whose rest keeps its content.
@@ -118,7 +90,7 @@ pub(crate) fn name_those<K, F: Fn(&Table<K>) -> bool>(
     ensures answer { (p : Table K → Bool) → Tests F.Fn test p → result ≡ passing p tables.now }
     ensures ids { (p : Table K → Bool) → Tests F.Fn test p → ids.new ≡ laid (numbers_of (filter p tables.now)) ids.old }
 {
-    let mut named = NONE;
+    let mut named = Named::default();
     for t in tables {
         if test(t) {
             ids[named.count] = t.number;
@@ -139,8 +111,8 @@ pub fn name_tables<K: KeyKind, P: Picks<K>>(
     ensures ids { ids.new ≡ written (P.Picks.passes test.now) tables.now ids.old }
     ensures within { IfOk result (λ n. n.count ≤ length ids.new) }
 {
-    let named = weigh(tables, &|t| test.picks(t))?;
-    if ids.len() < named.count {
+    total_size(tables, MOST_BYTES).ok_or(Refusal::NotSound)?;
+    if ids.len() < count_passing(tables, test) {
         return Err(Refusal::IdsTooShort);
     }
     Ok(name_passing(tables, test, ids))

@@ -6,12 +6,17 @@ ghost use Rattle.strategies.specs.Fifo.{older_weight, goes};
 
 use crate::fifo::FifoSettings;
 use runs::table::Table;
+use std::cmp::Ordering;
 
 // Whether one table is older than another: created before it, or at the same time and `earlier` on the sheet.
 fn is_older<K>(one: &Table<K>, other: &Table<K>, earlier: bool) -> bool
     ensures { result ≡ (nat_lt one.now.created other.now.created || (one.now.created == other.now.created && earlier)) }
 {
-    one.created < other.created || one.created == other.created && earlier
+    match one.created.cmp(&other.created) {
+        Ordering::Less => true,
+        Ordering::Equal => earlier,
+        Ordering::Greater => false,
+    }
 }
 
 impl FifoSettings {

@@ -2,7 +2,6 @@
 ghost use Rattle.std.specs.Prelude.{◌≡◌, ◌≤◌, length, take, if◌then◌else◌, Ok, Err, nat_le};
 ghost use Rattle.refusals.specs.declared.refusal.Refusal.TheVariants.{IdsTooShort};
 ghost use Rattle.sheets.specs.Edits.{laid};
-ghost use Rattle.sheets.specs.HiddenSet.{hidden};
 ghost use Rattle.strategies.specs.Question.{count_in, proposed, ids_after};
 
 use crate::choice::Choice;
@@ -38,8 +37,8 @@ pub fn propose<K: KeyKind, S: CompactionStrategy<K>>(
     clock: u64,
     ids: &mut [u64],
 ) -> Result<Choice, Refusal>
-    ensures answer { result ≡ proposed K.ranks (λ ts hs. S.CompactionStrategy.chooses settings.now ts hs blob_total clock) sheet.now standing (hidden hidden_set.now) blob_total (length ids.old) }
-    ensures ids { ids.new ≡ ids_after K.ranks (λ ts hs. S.CompactionStrategy.chooses settings.now ts hs blob_total clock) sheet.now standing (hidden hidden_set.now) blob_total ids.old }
+    ensures answer { result ≡ proposed K.ranks (λ ts hs. S.CompactionStrategy.chooses settings.now ts hs blob_total clock) sheet.now standing hidden_set.now blob_total (length ids.old) }
+    ensures ids { ids.new ≡ ids_after K.ranks (λ ts hs. S.CompactionStrategy.chooses settings.now ts hs blob_total clock) sheet.now standing hidden_set.now blob_total ids.old }
 {
     if !is_sound(sheet, standing, blob_total) {
         return Err(Refusal::NotSound);
@@ -62,10 +61,7 @@ fn hand_out(choice: Choice, room: &[u64], ids: &mut [u64]) -> Result<Choice, Ref
     ensures ids { ids.new ≡ (if nat_le (count_in choice) (length ids.old) then laid (take (count_in choice) room.now) ids.old else ids.old) }
 {
     let count = choice.count();
-    if ids.len() < count {
-        return Err(Refusal::IdsTooShort);
-    }
-    let front = &mut ids[0..count];
-    front.copy_from_slice(&room[0..count]);
+    let (front, _) = ids.split_at_mut_checked(count).ok_or(Refusal::IdsTooShort)?;
+    front.copy_from_slice(&room[..count]);
     Ok(choice)
 }

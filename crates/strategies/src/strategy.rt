@@ -1,7 +1,6 @@
 //! The interface of strategies.
 ghost use Rattle.std.specs.Prelude.{◌≡◌, ℕ, ◌≤◌, List, length};
 ghost use Rattle.runs.specs.declared.table.Table.{Table};
-ghost use Rattle.sheets.specs.HiddenSet.{hidden};
 ghost use Rattle.strategies.specs.Answer.{Answer, returned, written};
 ghost use Rattle.strategies.specs.Strategy.{Law};
 
@@ -25,8 +24,8 @@ pub trait CompactionStrategy<K: KeyKind> {
         ids: &mut [u64],
     ) -> Result<Choice, Declined>
         requires room { length snapshot.now.tables.now ≤ length ids.old }
-        ensures answer { result ≡ returned (chooses settings.now snapshot.now.tables.now (hidden snapshot.now.hidden_set.now) snapshot.now.blob_total snapshot.now.clock) }
-        ensures ids { ids.new ≡ written (chooses settings.now snapshot.now.tables.now (hidden snapshot.now.hidden_set.now) snapshot.now.blob_total snapshot.now.clock) ids.old };
+        ensures answer { result ≡ returned (chooses settings.now snapshot.now.tables.now snapshot.now.hidden_set.now snapshot.now.blob_total snapshot.now.clock) }
+        ensures ids { ids.new ≡ written (chooses settings.now snapshot.now.tables.now snapshot.now.hidden_set.now snapshot.now.blob_total snapshot.now.clock) ids.old };
 
     ghost keeps: { (s : Self.Settings) (blobs clock : ℕ) → Law K.ranks (λ ts hs. chooses s ts hs blobs clock) };
 }

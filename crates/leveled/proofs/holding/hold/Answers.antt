@@ -2,7 +2,6 @@ use Rattle.std.proofs.Common.{◌||◌, ◌+◌, true, false, take, sym, ap, ◌
 use Rattle.std.specs.List.{list_any}
 use Rattle.std.proofs.lemmas.List.{take_all}
 use Rattle.std.proofs.lemmas.List.Sums.{sum_by_more, sum_by-take-le}
-use Rattle.sheets.specs.HiddenSet.{hidden}
 use Rattle.sheets.specs.Level.{size_of}
 use Rattle.sheets.specs.Tables.{named, without}
 use Rattle.sheets.proofs.Levels.{without_less, free_more}
@@ -19,12 +18,12 @@ overflow_add-free_bytes g c =
       sum_by_more (λ u. u.size) ts i c.t-item.result (omega arith),
       sum_by-take-le (λ u. u.size) ts (i + 1),
       ap (λ u. u.size) c.t-item.is,
-      without_less (hidden c.args.hidden_set.now) (take i ts),
+      without_less c.args.hidden_set.now (take i ts),
     )
 
 pub loop-t-preserved : goal.loop-t-preserved
 loop-t-preserved g c =
-    let hs = hidden c.args.hidden_set.now in
+    let hs = c.args.hidden_set.now in
     let ts = c.args.tables.now in
     let i = c.loop-t.t-index in
     let free = free_more hs ts i c.t-item.result (omega arith) c.t-item.is in
@@ -40,7 +39,7 @@ loop-t-preserved g c =
 
 pub returns : goal.returns
 returns g c =
-    let hs = hidden c.args.hidden_set.now in
+    let hs = c.args.hidden_set.now in
     let ts = c.args.tables.now in
     let all = take_all c.loop-t.t-index ts (omega arith) in
     let free = c.loop-t.invariant.0 ∙ ap (λ us. size_of (without hs us)) all in

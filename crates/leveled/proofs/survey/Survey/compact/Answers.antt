@@ -9,15 +9,7 @@ use Rattle.leveled.proofs.Surveys.{small_of}
 use Rattle.leveled.proofs.survey.Survey.compact.Goals as goal
 
 pub pick_minimal_compaction-requires : goal.pick_minimal_compaction-requires
-pick_minimal_compaction-requires g c = record {
-  curr_sorted = c.tables_of-curr.ensures.run (omega (arith, c.requires.within));
-  next_sorted = c.tables_of-next.ensures.run (omega arith);
-  curr_small = c.tables_of-curr.ensures.small;
-  next_small = c.tables_of-next.ensures.small;
-  target_small = (limits (set_to c.args.self.now) c.args.self.now.limits).size_most;
-  curr_few = c.tables_of-curr.ensures.few;
-  next_few = c.tables_of-next.ensures.few;
-}
+pick_minimal_compaction-requires g c = record { target_small = (limits (set_to c.args.self.now) c.args.self.now.limits).size_most }
 
 -- ---- a move
 pub input-requires : goal.input-requires
@@ -27,9 +19,9 @@ input-requires g c =
     let ts = standing v in
     let n = c.args.n in
     let w = c.in-Some-Move.window in
-    let xs = c.cut-moved.result.now in
+    let xs = c.of-moved.result.now in
     let p = moved g.K.KeyKind.ranks (set_to v) ts (hides v) n w in
-    let is = window_named laws (set_to v) ts (hides v) c.args.self.now.sound n w c.tables_of-curr.result.now xs c.tables_of-curr.ensures.tables c.cut-moved.ensures in
+    let is = window_named laws (set_to v) ts (hides v) c.args.self.now.sound n w c.run_of-upper.result.run.tables.now xs c.run_of-upper.ensures c.of-moved.ensures in
     record { small = omega (arith, both_light p ts xs [] is, small_of laws ts c.args.self.now.sound); room = omega (arith, both_few p ts xs [] is, c.requires.room) }
 
 pub returns-in-Some-Move : goal.returns-in-Some-Move
@@ -42,20 +34,20 @@ returns-in-Some-Move g c =
     let n = c.args.n in
     let l = c.args.first.n in
     let w = c.in-Some-Move.window in
-    let curr = c.tables_of-curr.result.now in
-    let xs = c.cut-moved.result.now in
-    let is = window_named g.met.K.KeyKind.total s ts hs c.args.self.now.sound n w curr xs c.tables_of-curr.ensures.tables c.cut-moved.ensures in
+    let curr = c.run_of-upper.result.run.tables.now in
+    let xs = c.of-moved.result.now in
+    let is = window_named g.met.K.KeyKind.total s ts hs c.args.self.now.sound n w curr xs c.run_of-upper.ensures c.of-moved.ensures in
     gives_by _ _
     (ap (λ k. naming Move (n + 1) k s.target_size (moved cmp s ts hs n w) ts) c.canonical-canonical_level.ensures
-    ∙ picked_move cmp s ts hs l n curr c.tables_of-next.result.now c.tables_of-curr.ensures.tables c.tables_of-next.ensures.tables c.pick_minimal_compaction.result c.pick_minimal_compaction.ensures.picks w (sym (c.in-Some-Move.is ∙ ap Some c.in-Some-Move.field-0-is)))
+    ∙ picked_move cmp s ts hs l n curr c.run_of-lower.result.run.tables.now c.run_of-upper.ensures c.run_of-lower.ensures c.pick_minimal_compaction.result c.pick_minimal_compaction.ensures.picks w (sym (c.in-Some-Move.is ∙ ap Some c.in-Some-Move.field-0-is)))
     (moves (moved cmp s ts hs n w) ts (xs ++ []) is (n + 1) c.canonical-canonical_level.result s.target_size c.input.result c.input.ensures.input c.args.ids.now c.input.new.ids c.input.ensures.ids)
 
 -- ---- a merge
-pub cut-covered-requires : goal.cut-covered-requires
-cut-covered-requires g c =
+pub of-covered-requires : goal.of-covered-requires
+of-covered-requires g c =
     let v = c.args.self.now in
-    covered_within g.met.K.KeyKind.total (hides v) c.tables_of-curr.result.now c.tables_of-next.result.now (set_to v).target_size c.in-Some-Merge.merging
-    (c.tables_of-curr.ensures.run (omega (arith, c.requires.within))) (c.tables_of-next.ensures.run (omega arith)) (rw c.in-Some-Merge.field-0-is at c.in-Some-Merge.ensures.law)
+    covered_within g.met.K.KeyKind.total (hides v) c.run_of-upper.result.run.tables.now c.run_of-lower.result.run.tables.now (set_to v).target_size c.in-Some-Merge.merging
+    c.run_of-upper.result.run.sorted c.run_of-lower.result.run.sorted (rw c.in-Some-Merge.field-0-is at c.in-Some-Merge.ensures.law)
 
 pub input-requires-in-Some-Merge : goal.input-requires-in-Some-Merge
 input-requires-in-Some-Merge g c =
@@ -64,11 +56,11 @@ input-requires-in-Some-Merge g c =
     let ts = standing v in
     let n = c.args.n in
     let m = c.in-Some-Merge.merging in
-    let xs = c.cut-covered.result.now in
-    let ys = c.cut-window.result.now in
+    let xs = c.of-covered.result.now in
+    let ys = c.of-window.result.now in
     let p = merged g.K.KeyKind.ranks (set_to v) ts (hides v) n m.next in
-    let is = merge_named laws (set_to v) ts (hides v) c.args.self.now.sound n m c.tables_of-curr.result.now c.tables_of-next.result.now xs ys c.tables_of-curr.ensures.tables c.tables_of-next.ensures.tables
-    (c.tables_of-curr.ensures.run (omega (arith, c.requires.within))) (c.tables_of-next.ensures.run (omega arith)) (rw c.in-Some-Merge.field-0-is at c.in-Some-Merge.ensures.law) c.cut-covered.ensures c.cut-window.ensures in
+    let is = merge_named laws (set_to v) ts (hides v) c.args.self.now.sound n m c.run_of-upper.result.run.tables.now c.run_of-lower.result.run.tables.now xs ys c.run_of-upper.ensures c.run_of-lower.ensures
+    c.run_of-upper.result.run.sorted c.run_of-lower.result.run.sorted (rw c.in-Some-Merge.field-0-is at c.in-Some-Merge.ensures.law) c.of-covered.ensures c.of-window.ensures in
     record { small = omega (arith, both_light p ts xs ys is, small_of laws ts c.args.self.now.sound); room = omega (arith, both_few p ts xs ys is, c.requires.room) }
 
 pub returns-in-Some-Merge : goal.returns-in-Some-Merge
@@ -81,15 +73,15 @@ returns-in-Some-Merge g c =
     let n = c.args.n in
     let l = c.args.first.n in
     let m = c.in-Some-Merge.merging in
-    let curr = c.tables_of-curr.result.now in
-    let next = c.tables_of-next.result.now in
-    let xs = c.cut-covered.result.now in
-    let ys = c.cut-window.result.now in
-    let is = merge_named g.met.K.KeyKind.total s ts hs c.args.self.now.sound n m curr next xs ys c.tables_of-curr.ensures.tables c.tables_of-next.ensures.tables
-    (c.tables_of-curr.ensures.run (omega (arith, c.requires.within))) (c.tables_of-next.ensures.run (omega arith)) (rw c.in-Some-Merge.field-0-is at c.in-Some-Merge.ensures.law) c.cut-covered.ensures c.cut-window.ensures in
+    let curr = c.run_of-upper.result.run.tables.now in
+    let next = c.run_of-lower.result.run.tables.now in
+    let xs = c.of-covered.result.now in
+    let ys = c.of-window.result.now in
+    let is = merge_named g.met.K.KeyKind.total s ts hs c.args.self.now.sound n m curr next xs ys c.run_of-upper.ensures c.run_of-lower.ensures
+    c.run_of-upper.result.run.sorted c.run_of-lower.result.run.sorted (rw c.in-Some-Merge.field-0-is at c.in-Some-Merge.ensures.law) c.of-covered.ensures c.of-window.ensures in
     gives_by _ _
     (ap (λ k. naming Merge (n + 1) k s.target_size (merged cmp s ts hs n m.next) ts) c.canonical-canonical_level.ensures
-    ∙ picked_merge cmp s ts hs l n curr next c.tables_of-curr.ensures.tables c.tables_of-next.ensures.tables c.pick_minimal_compaction.result c.pick_minimal_compaction.ensures.picks m (sym (c.in-Some-Merge.is ∙ ap Some c.in-Some-Merge.field-0-is)))
+    ∙ picked_merge cmp s ts hs l n curr next c.run_of-upper.ensures c.run_of-lower.ensures c.pick_minimal_compaction.result c.pick_minimal_compaction.ensures.picks m (sym (c.in-Some-Merge.is ∙ ap Some c.in-Some-Merge.field-0-is)))
     (merges (merged cmp s ts hs n m.next) ts (xs ++ ys) is (n + 1) c.canonical-canonical_level.result s.target_size c.input-in-Some-Merge.result c.input-in-Some-Merge.ensures.input c.args.ids.now c.input-in-Some-Merge.new.ids c.input-in-Some-Merge.ensures.ids)
 
 -- ---- neither
@@ -97,6 +89,6 @@ pub returns-in-None : goal.returns-in-None
 returns-in-None g c =
     let v = c.args.self.now in
     gives_by _ _
-    (picked_nothing g.K.KeyKind.ranks (set_to v) (standing v) (hides v) c.args.first.n c.args.n c.tables_of-curr.result.now c.tables_of-next.result.now
-    c.tables_of-curr.ensures.tables c.tables_of-next.ensures.tables c.pick_minimal_compaction.result c.pick_minimal_compaction.ensures.picks (sym c.in-None.is))
+    (picked_nothing g.K.KeyKind.ranks (set_to v) (standing v) (hides v) c.args.first.n c.args.n c.run_of-upper.result.run.tables.now c.run_of-lower.result.run.tables.now
+    c.run_of-upper.ensures c.run_of-lower.ensures c.pick_minimal_compaction.result c.pick_minimal_compaction.ensures.picks (sym c.in-None.is))
     (gives_nothing c.args.ids.now)

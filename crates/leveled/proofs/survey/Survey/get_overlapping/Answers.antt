@@ -12,5 +12,5 @@ returns-in_default g c =
 pub returns : goal.returns
 returns g c =
     let v = c.args.self.now in
-    meets_span_of g.K.KeyKind.ranks (set_to v) (standing v) (hides v) c.args.n c.in-Some.span c.tables_of-run.result.now _
-    (c.in-Some.ensures ∙ ap (span_of g.K.KeyKind.ranks (λ t. t.range)) c.tables_of.ensures.tables) c.tables_of-run.ensures.tables c.overlapping.ensures.tables
+    meets_span_of g.K.KeyKind.ranks (set_to v) (standing v) (hides v) c.args.n c.in-Some.span c.run_of.result.run.tables.now _
+    (c.in-Some.ensures ∙ ap (span_of g.K.KeyKind.ranks (λ t. t.range)) c.tables_of.ensures.tables) c.run_of.ensures c.overlapping.ensures.tables

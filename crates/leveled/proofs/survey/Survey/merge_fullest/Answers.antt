@@ -2,8 +2,7 @@ use Rattle.std.proofs.Common.{◌≡◌, ◌≤◌, Some, sym, ap, ◌∙◌, ru
 use Rattle.levels.specs.Scores.{chosen}
 use Rattle.leveled.specs.Leveled.{scores}
 use Rattle.leveled.specs.Survey.{set_to, standing, hides}
-use Rattle.leveled.proofs.Answered.{gives_by}
-use Rattle.leveled.proofs.Scored.{wins_between, won_zero, won_deeper}
+use Rattle.leveled.proofs.Scored.{wins_between}
 use Rattle.leveled.proofs.survey.Survey.merge_fullest.Goals as goal
 
 pub overflow_cast-n : goal.overflow_cast-n
@@ -21,15 +20,3 @@ compact-requires g c =
     let wins : Some n ≡ chosen (scores (set_to v) (standing v) (hides v) c.args.first.n) = c.in-Some.ensures.value ∙ ap chosen c.scores-scores.ensures in
     let between = wins_between (set_to v) (standing v) (hides v) c.args.first.n n (sym wins) c.in-Some.n-test.1 in
     record { within = between; room = c.requires.room }
-
-pub returns-in-Some-eq0 : goal.returns-in-Some-eq0
-returns-in-Some-eq0 g c =
-    let v = c.args.self.now in
-    let wins = c.in-Some-eq0.ensures.value ∙ ap chosen c.scores-scores.ensures in
-    gives_by _ _ (won_zero g.K.KeyKind.ranks (set_to v) (standing v) (hides v) c.args.first.n c.in-Some-eq0.field-0 wins c.in-Some-eq0.field-0-test) c.merge_first.ensures
-
-pub returns-in-Some : goal.returns-in-Some
-returns-in-Some g c =
-    let v = c.args.self.now in
-    let wins = c.in-Some.ensures.value ∙ ap chosen c.scores-scores.ensures in
-    gives_by _ _ (won_deeper g.K.KeyKind.ranks (set_to v) (standing v) (hides v) c.args.first.n c.in-Some.n wins c.in-Some.n-test.1) c.compact.ensures

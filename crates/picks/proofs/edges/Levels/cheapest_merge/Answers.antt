@@ -15,15 +15,15 @@ loop-start-init g c =
     let spans = g.T.Ranged.spans in
     let bytes = g.T.TableFile.bytes in
     let laws = g.met.T.Key.KeyKind.total in
-    let curr = c.args.self.now.curr.run.tables.now in
-    let next = c.args.self.now.next.run.tables.now in
+    let curr = c.args.self.now.curr.level.run.tables.now in
+    let next = c.args.self.now.next.level.run.tables.now in
     let cm = c.args.self.now.curr.marks in
     let nm = c.args.self.now.next.marks in
     let none : c.default-left.result ≡ record { next = front bytes next nm 0; curr = front bytes curr cm 0 } = search rules in
     rw none (
-      left_none laws spans curr next c.args.self.now.next.run.sorted bytes cm nm _ refl refl,
+      left_none laws spans curr next c.args.self.now.next.level.run.sorted bytes cm nm _ refl refl,
       same_edge _ _ refl (ap (front bytes curr cm) (sym (ended_none laws spans curr next))),
-      light_none laws spans curr next c.args.self.now.next.run.sorted bytes cm nm 0,
+      light_none laws spans curr next c.args.self.now.next.level.run.sorted bytes cm nm 0,
       λ hs m n. found_none cmp spans bytes g.T.TableFile.named hs curr next c.args.target_size,
     )
 
@@ -34,16 +34,16 @@ is_allowed-requires g c =
       arith,
       ap (λ (x : Edge). x.next.sum) c.left_edge-left.ensures,
       ap (λ (x : Edge). x.next.sum) c.right_edge-right.ensures.edge,
-      sum_mono g.T.TableFile.bytes c.args.self.now.next.run.tables.now c.loop-start.start c.right_edge-right.result.next.at (omega (arith, start, c.right_edge-right.ensures.shortest.past)),
+      sum_mono g.T.TableFile.bytes c.args.self.now.next.level.run.tables.now c.loop-start.start c.right_edge-right.result.next.at (omega (arith, start, c.right_edge-right.ensures.shortest.past)),
     )
 
 pub merge_between-requires : goal.merge_between-requires
 merge_between-requires g c =
     let start = ap (λ (x : Edge). x.next.at) c.left_edge-left.ensures in
     let a = allowed_gives (50 * c.args.target_size) c.left_edge-left.result c.right_edge-right.result (sym c.is_allowed.ensures ∙ c.if-is_allowed.true) in
-    edges_open g.met.T.Key.KeyKind.total g.T.Ranged.spans c.args.self.now.curr.run.tables.now c.args.self.now.next.run.tables.now c.args.self.now.next.run.sorted g.T.TableFile.bytes c.args.self.now.curr.marks c.args.self.now.next.marks
+    edges_open g.met.T.Key.KeyKind.total g.T.Ranged.spans c.args.self.now.curr.level.run.tables.now c.args.self.now.next.level.run.tables.now c.args.self.now.next.level.run.sorted g.T.TableFile.bytes c.args.self.now.curr.marks c.args.self.now.next.marks
     c.loop-start.start c.right_edge-right.result.next.at c.left_edge-left.result c.right_edge-right.result c.left_edge-left.ensures c.right_edge-right.ensures.edge
-    (omega (arith, start, c.right_edge-right.ensures.shortest.past)) a.weighs c.args.self.now.curr.small c.args.self.now.next.small
+    (omega (arith, start, c.right_edge-right.ensures.shortest.past)) a.weighs c.args.self.now.curr.level.small c.args.self.now.next.level.small
 
 pub loop-start-preserved : goal.loop-start-preserved
 loop-start-preserved g c =
@@ -52,8 +52,8 @@ loop-start-preserved g c =
     let bytes = g.T.TableFile.bytes in
     let named = g.T.TableFile.named in
     let laws = g.met.T.Key.KeyKind.total in
-    let curr = c.args.self.now.curr.run.tables.now in
-    let next = c.args.self.now.next.run.tables.now in
+    let curr = c.args.self.now.curr.level.run.tables.now in
+    let next = c.args.self.now.next.level.run.tables.now in
     let cm = c.args.self.now.curr.marks in
     let nm = c.args.self.now.next.marks in
     let target = c.args.target_size in
@@ -67,21 +67,21 @@ loop-start-preserved g c =
     let right_is : right ≡ right_of cmp spans curr next bytes cm nm e = c.right_edge-right.ensures.edge in
     let test : c.is_allowed.result ≡ allowed cap (left_of cmp spans curr next bytes cm nm i) (right_of cmp spans curr next bytes cm nm e) =
     c.is_allowed.ensures ∙ ap (λ x. allowed cap x right) left_is ∙ ap (allowed cap (left_of cmp spans curr next bytes cm nm i)) right_is in (
-      left_next laws spans curr next c.args.self.now.next.run.sorted bytes cm nm i left left_is,
+      left_next laws spans curr next c.args.self.now.next.level.run.sorted bytes cm nm i left left_is,
       right_is,
-      light_next laws spans curr next c.args.self.now.next.run.sorted bytes cm nm i e short.lights,
+      light_next laws spans curr next c.args.self.now.next.level.run.sorted bytes cm nm i e short.lights,
       elim c.if-is_allowed.branch [
         | then-is_allowed w ↦
             let found : w.merge_between.result ≡ merged (left_of cmp spans curr next bytes cm nm i) (right_of cmp spans curr next bytes cm nm e) =
             w.merge_between.ensures ∙ ap (λ x. merged x right) left_is ∙ ap (merged (left_of cmp spans curr next bytes cm nm i)) right_is in
             λ hs m n. rw (w.best-is ∙ w.sooner-best.ensures ∙ ap (sooner c.loop-start.best) found)
-            (turn_finds laws spans curr next c.args.self.now.curr.run.sorted c.args.self.now.next.run.sorted bytes named hs target cm nm m n i e short c.loop-start.best (c.loop-start.invariant.3 hs m n) (sym test ∙ w.if-is_allowed.true))
+            (turn_finds laws spans curr next c.args.self.now.curr.level.run.sorted c.args.self.now.next.level.run.sorted bytes named hs target cm nm m n i e short c.loop-start.best (c.loop-start.invariant.3 hs m n) (sym test ∙ w.if-is_allowed.true))
         | else-is_allowed w ↦
             λ hs m n. rw w.best-is
-            (turn_bars laws spans curr next c.args.self.now.curr.run.sorted c.args.self.now.next.run.sorted bytes named hs target cm nm m n i e short c.loop-start.best (c.loop-start.invariant.3 hs m n) (sym test ∙ w.if-is_allowed.false))
+            (turn_bars laws spans curr next c.args.self.now.curr.level.run.sorted c.args.self.now.next.level.run.sorted bytes named hs target cm nm m n i e short c.loop-start.best (c.loop-start.invariant.3 hs m n) (sym test ∙ w.if-is_allowed.false))
       ],
     )
 
 pub returns : goal.returns
 returns g c =
-    λ hs m n. found_all g.T.Key.KeyKind.ranks g.T.Ranged.spans g.T.TableFile.bytes g.T.TableFile.named hs c.args.self.now.curr.run.tables.now c.args.self.now.next.run.tables.now c.args.target_size c.loop-start.start c.loop-start.best (omega arith) (c.loop-start.invariant.3 hs m n)
+    λ hs m n. found_all g.T.Key.KeyKind.ranks g.T.Ranged.spans g.T.TableFile.bytes g.T.TableFile.named hs c.args.self.now.curr.level.run.tables.now c.args.self.now.next.level.run.tables.now c.args.target_size c.loop-start.start c.loop-start.best (omega arith) (c.loop-start.invariant.3 hs m n)

@@ -7,21 +7,21 @@ use Rattle.picks.proofs.fronts.Front.advanced.Goals as goal
 pub size-bytes-requires : goal.size-bytes-requires
 size-bytes-requires g c =
     let f = g.T.TableFile.bytes in
-    let ts = c.args.level.now.run.tables.now in
-    omega (arith, sum_between f ts c.args.self.at c.args.to, sum_by-take-le f ts c.args.to, c.args.level.now.small)
+    let ts = c.args.marked.now.level.run.tables.now in
+    omega (arith, sum_between f ts c.args.self.at c.args.to, sum_by-take-le f ts c.args.to, c.args.marked.now.level.small)
 
 pub overflow_add-result : goal.overflow_add-result
 overflow_add-result g c =
     let f = g.T.TableFile.bytes in
-    let ts = c.args.level.now.run.tables.now in
+    let ts = c.args.marked.now.level.run.tables.now in
     let sum = sum_reach f ts c.args.self.at c.args.to c.args.self.sum c.size-bytes.result c.requires.behind.0 (ap (λ (x : Front). x.sum) c.requires.here) c.size-bytes.ensures in
-    omega (arith, sum_by-take-le f ts c.args.to, c.args.level.now.small)
+    omega (arith, sum_by-take-le f ts c.args.to, c.args.marked.now.level.small)
 
 pub returns : goal.returns
 returns g c =
     let f = g.T.TableFile.bytes in
-    let ts = c.args.level.now.run.tables.now in
-    let marks = c.args.level.now.marks in
+    let ts = c.args.marked.now.level.run.tables.now in
+    let marks = c.args.marked.now.marks in
     let at = c.args.self.at in
     let to = c.args.to in
     let here = c.requires.here in

@@ -13,9 +13,9 @@ loop-i-preserved g c =
     let spans = g.T.Ranged.spans in
     let named = g.T.TableFile.named in
     let laws = g.met.T.Key.KeyKind.total in
-    let curr = c.args.self.now.run.tables.now in
+    let curr = c.args.self.now.level.run.tables.now in
     let next = c.args.next.now.tables.now in
-    let curr_ok = c.args.self.now.run.sorted in
+    let curr_ok = c.args.self.now.level.run.sorted in
     let next_ok = c.args.next.now.sorted in
     let marks = c.args.self.now.marks in
     let i = c.loop-i.i in
@@ -57,4 +57,4 @@ loop-i-preserved g c =
 
 pub returns : goal.returns
 returns g c =
-    λ hs m. found_all g.T.Key.KeyKind.ranks g.T.Ranged.spans g.T.TableFile.named hs c.args.self.now.run.tables.now c.args.next.now.tables.now c.loop-i.i c.loop-i.best (omega arith) (c.loop-i.invariant.1 hs m)
+    λ hs m. found_all g.T.Key.KeyKind.ranks g.T.Ranged.spans g.T.TableFile.named hs c.args.self.now.level.run.tables.now c.args.next.now.tables.now c.loop-i.i c.loop-i.best (omega arith) (c.loop-i.invariant.1 hs m)

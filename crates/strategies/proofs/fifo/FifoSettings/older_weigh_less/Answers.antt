@@ -1,16 +1,11 @@
-use Rattle.std.proofs.Common.{◌≡◌, ◌+◌, ◌<◌, Bool, ◌&&◌, ltb, leb, length, sym, ap, ◌∙◌, arith}
+use Rattle.std.proofs.Common.{◌≡◌, ◌+◌, ◌<◌, Bool, ◌&&◌, leb, length, sym, ◌∙◌, arith}
 use Rattle.std.proofs.lemmas.Bool.{and_left, and_right, and_from}
 use Rattle.runs.specs.declared.table.Table.{Table}
 use Rattle.strategies.specs.Fifo.{place_of, older, live}
 use Rattle.strategies.proofs.Places.{numbered, earlier_here, earlier_there, older_here}
-use Rattle.strategies.proofs.Taking.{take_yes, take_not, take_all, less_is, less_none}
+use Rattle.strategies.proofs.Taking.{take_yes, take_not}
 use Rattle.strategies.proofs.fifo.FifoSettings.older_weigh_less.Goals as goal
 use Rattle.strategies.proofs.fifo.FifoSettings.older_weigh_less.Goals.{then-t-table, else-t-table, then-is_live+then-is_older, else-is_live, else-is_live-via-then-is_live+else-is_older, else-is_live-via-else-is_live}
-
-pub returns-then-left-eq0 : goal.returns-then-left-eq0
-returns-then-left-eq0 g c =
-    let p : Table g.row.K.Denot → Bool = λ v. live c.args.self.now.ttl_seconds c.args.clock v && older c.args.tables.now c.args.table.now v in
-    less_none p c.args.tables.now c.args.excess c.loop-t.left c.loop-t.t-index c.if-left-eq0.true c.loop-t.invariant.1
 
 pub loop-t-preserved : goal.loop-t-preserved
 loop-t-preserved g c =
@@ -40,7 +35,3 @@ loop-t-preserved g c =
             ])
       ],
     )
-
-pub returns : goal.returns
-returns g c =
-    ap (λ n. ltb 0 n) (take_all _ c.args.tables.now c.args.excess c.loop-t.left c.loop-t.t-index (omega arith) c.loop-t.invariant.1) ∙ less_is c.args.excess _

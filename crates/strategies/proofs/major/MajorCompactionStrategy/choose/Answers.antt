@@ -4,9 +4,3 @@ use Rattle.strategies.proofs.major.MajorCompactionStrategy.choose.Goals as goal
 
 pub name_those-requires-clause-room : goal.name_those-requires-clause-room
 name_those-requires-clause-room g c = (λ t. true, λ t b h. search rules, room_for_some (λ t. true) c.args.snapshot.now.tables.now _ c.requires.room)
-
-pub returns : goal.returns
-returns g c =
-    let answer = c.name_those.ensures.answer (λ t. true) (λ t b h. search rules) in
-    let ids = c.name_those.ensures.ids (λ t. true) (λ t b h. search rules) in
-    search rules
