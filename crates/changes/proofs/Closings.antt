@@ -27,7 +27,7 @@ in_out : {X : Type 0} {x : X} {xs : List X} → In x xs → (ys : List X) × Out
 in_out (here {y} {ys} e) = (ys, subst (λ z. Out z (y ∷ ys) ys) (sym e) first)
 in_out (later {y} m) = let w = in_out m in (y ∷ w.0, next w.1)
 
--- ---- what the tests come to
+-- ---- the tests
 module _ {K : Type 0} (cmp : K → K → Ordering) (j : Running) (outs : List (Fresh K)) (s : List (Table K)) (n : ℕ) where
   abbrev ts : List (Table K)
   ts = take n s
@@ -41,32 +41,6 @@ module _ {K : Type 0} (cmp : K → K → Ordering) (j : Running) (outs : List (F
   -- the last test
   abbrev in_room : State K → Bool → State K × Result (Unit {0}) Refusal
   in_room st b = cond b (with_tables (freed cmp j st) (length (closed cmp j outs st.tables)) (closed cmp j outs st.tables), Ok tt) (st, Err Full)
-
-  pub says_tables : (place : ℕ) → Some place ≡ faulty (take n s) → Says cmp j outs s n (Err (BadTable place))
-  says_tables place h blobs hidden slots = ap (λ o. (unless_tables cmp o j outs (on_sheet s n blobs hidden slots)).1) h
-
-  module _ (fresh : None ≡ faulty (take n s)) where
-    past_tables : (st : State K) → (unless_tables cmp None j outs st).1 ≡ (unless_tables cmp (faulty ts) j outs st).1
-    past_tables st = ap (λ o. (unless_tables cmp o j outs st).1) fresh
-
-    pub says_outputs : (place : ℕ) → Some place ≡ misfit (take n s) → Says cmp j outs s n (Err (BadOutputs place))
-    says_outputs place h blobs hidden slots =
-        let st = on_sheet s n blobs hidden slots in
-        ap (λ o. (unless_outputs cmp o j outs st).1) h ∙ past_tables st
-
-    module _ (good : None ≡ misfit (take n s)) where
-      past_outputs : (st : State K) → (unless_outputs cmp None j outs st).1 ≡ (unless_outputs cmp (misfit ts) j outs st).1
-      past_outputs st = ap (λ o. (unless_outputs cmp o j outs st).1) good
-
-      pub says_full : false ≡ has_room (length s) (closed cmp j outs ts) → Says cmp j outs s n (Err Full)
-      says_full h blobs hidden slots =
-          let st = on_sheet s n blobs hidden slots in
-          ap (λ b. (in_room st b).1) h ∙ past_outputs st ∙ past_tables st
-
-      pub says_done : true ≡ has_room (length s) (closed cmp j outs ts) → Says cmp j outs s n (Ok tt)
-      says_done h blobs hidden slots =
-          let st = on_sheet s n blobs hidden slots in
-          ap (λ b. (in_room st b).1) h ∙ past_outputs st ∙ past_tables st
 
   -- ---- refused
   refused_room : (st : State K) (b : Bool) (e : Refusal) → Err e ≡ (in_room st b).1 → in_room st b ≡ (st, Err e)

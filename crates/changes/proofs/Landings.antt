@@ -1,7 +1,6 @@
 -- A landing in the lent sheet is the landing on every book with that sheet.
 use Rattle.std.proofs.Common.{◌≡◌, ℕ, ◌+◌, ◌<◌, ◌≤◌, Bool, true, false, cond, List, length, take, Ok, Err, Option, Result, Ordering, sym, refl, ap, ◌∙◌, arith}
 use Rattle.std.proofs.lemmas.List.{length-take-le}
-use Rattle.std.proofs.lemmas.Bool.{cond-true, cond-false}
 use Rattle.refusals.specs.declared.refusal.Refusal.{Refusal}
 use Rattle.refusals.specs.declared.refusal.Refusal.TheVariants.{BadTable, Full}
 use Rattle.runs.specs.declared.fresh.Fresh.{Fresh}
@@ -31,11 +30,6 @@ module _ {A : Type 0} (kept done : A) (run : ℕ) (x y : Refusal) where
   abbrev result : Bool → Bool → A × Result (Unit {0}) Refusal
   result a b = cond a (cond b (done, Ok tt) (kept, Err x)) (kept, Err y)
 
-  refused_is : (a b : Bool) (e : Refusal) → Err e ≡ tested a b → result a b ≡ (kept, Err e)
-  refused_is true true e h = absurd (let z : ◌≡◌ {A = ℕ} 0 1 = cc in omega arith)
-  refused_is true false e h = let q : x ≡ e = cc in ap (λ z. (kept, Err z)) q
-  refused_is false b e h = let q : y ≡ e = cc in ap (λ z. (kept, Err z)) q
-
   granted_is : (a b : Bool) (r : ℕ) → Ok r ≡ tested a b → (result a b ≡ (done, Ok tt)) × (r ≡ run) × (b ≡ true)
   granted_is true true r h = (refl, cc, refl)
   granted_is true false r h = absurd (let z : ◌≡◌ {A = ℕ} 0 1 = cc in omega arith)
@@ -45,23 +39,7 @@ module _ {K : Type 0} (cmp : K → K → Ordering) (f : Fresh K) (s : List (Tabl
   abbrev ts : List (Table K)
   ts = take n s
 
-  -- ---- what the tests come to
-  pub admit_bad : false ≡ fresh_ok cmp (take n s) f → Err (BadTable 0) ≡ admitted cmp f (length s) ts
-  admit_bad h = sym (cond-false (fresh_ok cmp ts f) _ _ (sym h))
-
-  module _ (fresh : true ≡ fresh_ok cmp (take n s) f) where
-    pub admit_full : false ≡ has_room (length s) (landed cmp f ts) → Err Full ≡ admitted cmp f (length s) ts
-    admit_full h = sym (cond-true (fresh_ok cmp ts f) _ _ (sym fresh) ∙ cond-false (has_room (length s) (landed cmp f ts)) _ _ (sym h))
-
-    pub admit_run : true ≡ has_room (length s) (landed cmp f ts) → (run : ℕ) → run ≡ landing_run cmp f (take n s) → Ok run ≡ admitted cmp f (length s) ts
-    admit_run h run e =
-        ap Ok e
-        ∙ sym (cond-true (fresh_ok cmp ts f) _ _ (sym fresh) ∙ cond-true (has_room (length s) (landed cmp f ts)) _ _ (sym h))
-
   -- ---- what a landing leaves
-  pub land_refused : (e : Refusal) → Err e ≡ admitted cmp f (length s) ts → Lands cmp f s n s (Err e)
-  land_refused e h blobs hidden slots = refused_is _ _ (landing_run cmp f ts) Full (BadTable 0) (fresh_ok cmp ts f) (has_room (length s) (landed cmp f ts)) e h
-
   module _ (run : ℕ) (h : Ok run ≡ admitted cmp f (length s) ts) where
     pub land_room : has_room (length s) (landed cmp f ts) ≡ true
     land_room = (granted_is s s (landing_run cmp f ts) Full (BadTable 0) (fresh_ok cmp ts f) (has_room (length s) (landed cmp f ts)) run h).2

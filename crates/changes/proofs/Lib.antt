@@ -1,6 +1,5 @@
 pub mod Closings
 pub mod Faults
 pub mod Landings
-pub mod Left
 pub mod Rooms
 pub mod Swaps

@@ -49,9 +49,6 @@ module _ {K : Type 0} (ns : List ℕ) (s : List (Table K)) (n : ℕ) (outs : Lis
   pub merge_light : length outs ≤ length s - count → leb (sum_by (λ f. f.size) outs) (2 ^ 53 - bytes) ≡ merge_fits (length s) stay outs
   merge_light le = sym (tested ∙ ap (λ b. b && leb (sum_by (λ f. f.size) outs) (2 ^ 53 - bytes)) (le-leb (length outs) (length s - count) le))
 
-  pub merge_full : length s - count < length outs → false ≡ merge_fits (length s) stay outs
-  merge_full lt = sym (tested ∙ ap (λ b. b && leb (sum_by (λ f. f.size) outs) (2 ^ 53 - bytes)) (lt-leb (length outs) (length s - count) lt))
-
 -- ---- what a closed job leaves
 -- a move or a drop is no merge
 no_merge : (k : Kind) → (k ≡ Move) ⊎ (k ≡ Drop) → k ≡ Merge → ⊥

@@ -10,7 +10,7 @@ use Rattle.sheets.proofs.Inserts.{length_inserts}
 use Rattle.sheets.proofs.Laid.{relaid}
 use Rattle.edits.proofs.Parting.{length_parted}
 use Rattle.strategies.specs.declared.choice.Kind.{Kind}
-use Rattle.strategies.specs.declared.choice.Kind.TheVariants.{Move, Merge, Drop}
+use Rattle.strategies.specs.declared.choice.Kind.TheVariants.{Move, Merge}
 use Rattle.books.proofs.Rooms.{both_length}
 use Rattle.books.specs.Job.{Running}
 use Rattle.changes.specs.Close.{swapped}
@@ -64,7 +64,3 @@ module _ {K : Type 0} (cmp : K → K → Ordering) (d : ℕ) (ns : List ℕ) (ou
           count = e ∙ sym merged_length;
           sheet = relaid (λ l. inserts cmp l (map (settled d 0) outs)) stay s s' s'' left after size (omega (arith, merged_length)) come;
         }
-
-    -- ---- a drop: its tables leave
-    pub swap_drop : (s' : List (Table K)) → s' ≡ laid stay s → Swapped cmp Drop d ns outs s s' n left
-    swap_drop s' after = record { count = size; sheet = after }

@@ -121,9 +121,9 @@ impl<'a> RunningJob<'a> {
         requires total { size_of (take standing sheet.now) ≤ 2 ^ 53 }
         ensures { result ≡ merge_fits (length sheet.now) (without self.now.numbers.now (take standing sheet.now)) outputs.now }
     {
-        let left = weigh_left(&sheet[..standing], self.numbers);
-        outputs.len() <= sheet.len() - left.count
-            && total_size(outputs, MOST_BYTES - left.bytes).is_some()
+        let tables = &sheet[..standing];
+        outputs.len() <= sheet.len() - count_left(tables, self.numbers)
+            && total_size(outputs, MOST_BYTES - bytes_left(tables, self.numbers)).is_some()
     }
 
     // The job's tables leave, and what it brings in comes, each in its place. How many stand then.
@@ -181,12 +181,10 @@ fn first_fault<K, F: Fn(&[Fresh<K>], &Fresh<K>) -> bool>(
     requires { F.IsAlwaysCallable is_fault }
     ensures { (p : List (Fresh K) → Fresh K → Bool) → ((before : _) (output : _) (r : Bool) → F.post is_fault before output r → r ≡ p (reverse before.now) output.now) → result ≡ first_fault p [] outputs.now }
 {
-    for (i, output) in outputs.iter().enumerate() {
-        if is_fault(&outputs[..i], output) {
-            return Some(i);
-        }
-    }
-    None
+    outputs
+        .iter()
+        .enumerate()
+        .position(|(i, output)| is_fault(&outputs[..i], output))
 }
 
 // Whether the output may not stand with the tables, or has the number of one of those before it.
@@ -209,29 +207,27 @@ fn follows<K: KeyKind>(before: &[Fresh<K>], output: &Fresh<K>) -> bool
 {
     before
         .last()
-        .is_none_or(|last| last.range.max.compare(&output.range.min).is_lt())
+        .is_none_or(|last| last.range.ends_before(&output.range))
 }
 
-// How many tables a job leaves, and their bytes.
-#[derive(Clone, Copy)]
-struct Left {
-    count: usize,
-    bytes: u64,
-}
-
-// Weighs the tables that are not listed: each is looked up once.
-fn weigh_left<K: KeyKind>(tables: &[Table<K>], numbers: &[u64]) -> Left
-    requires { size_of tables.now ≤ 2 ^ 53 }
-    ensures count { result.count ≡ length (without numbers.now tables.now) }
-    ensures bytes { result.bytes ≡ size_of (without numbers.now tables.now) }
+// How many of the tables are not listed.
+fn count_left<K>(tables: &[Table<K>], numbers: &[u64]) -> usize
+    ensures { result ≡ length (without numbers.now tables.now) }
 {
-    let mut count = 0;
-    let mut bytes = 0;
-    for table in tables {
-        if !numbers.contains(&table.number) {
-            count += 1;
-            bytes += table.size;
-        }
-    }
-    Left { count, bytes }
+    tables
+        .iter()
+        .filter(|t| !numbers.contains(&t.number))
+        .count()
+}
+
+// The bytes of the tables that are not listed.
+fn bytes_left<K>(tables: &[Table<K>], numbers: &[u64]) -> u64
+    requires { size_of tables.now ≤ 2 ^ 53 }
+    ensures { result ≡ size_of (without numbers.now tables.now) }
+{
+    tables
+        .iter()
+        .filter(|t| !numbers.contains(&t.number))
+        .map(|t| t.size)
+        .sum()
 }

@@ -14,7 +14,7 @@ use refusals::refusal::Refusal;
 use runs::fresh::Fresh;
 use runs::table::Table;
 use sheets::level::{run_count, size};
-use sheets::sound::MOST_BYTES;
+use sheets::sound::{MOST_BYTES, is_within_limits};
 
 /// Puts the fresh table in its place in level 0, and says how many stand then.
 /// Refused, first where the table may not stand with the others, then where sheet or total have no room, the sheet keeps its content.
@@ -51,10 +51,7 @@ fn admit<K: KeyKind>(sheet: &[Table<K>], standing: usize, fresh: &Fresh<K>) -> R
 pub fn is_fresh_ok<K: KeyKind>(tables: &[Table<K>], fresh: &Fresh<K>) -> bool
     ensures { result ≡ fresh_ok K.ranks tables.now fresh.now }
 {
-    !fresh.range.max.compare(&fresh.range.min).is_lt()
-        && fresh.size <= MOST_BYTES
-        && fresh.linked <= MOST_BYTES
-        && !has_number(tables, fresh.number)
+    is_within_limits(&fresh.at(0, 0)) && !has_number(tables, fresh.number)
 }
 
 /// Whether the sheet has a place, and the total is not too large, with the fresh table landed.

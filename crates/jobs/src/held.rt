@@ -1,37 +1,34 @@
 //! The tables of a job among those that stand. What is `pub(crate)` here serves the book, which has tested the sheet: hence the `requires`.
-ghost use Rattle.std.specs.Prelude.{◌≡◌, ◌≤◌, not, map, length, take, filter};
+ghost use Rattle.std.specs.Prelude.{◌≡◌, ◌≤◌, not, length, filter};
 ghost use Rattle.std.specs.List.{list_all};
 ghost use Rattle.keys.specs.KeyRange.{meets};
 ghost use Rattle.picks.specs.Movable.{meets_span};
 ghost use Rattle.sheets.specs.Tables.{named};
-ghost use Rattle.strategies.specs.Strategy.{spans_meet};
 ghost use Rattle.jobs.specs.Held.{marked, clear_by, unmet};
 
+use crate::sound::BookTest;
 use keys::key_kind::KeyKind;
 use keys::key_range::KeyRange;
 use runs::table::Table;
-use sheets::sound::MOST_TABLES;
+use sheets::marks::marks_of;
 
-// Whether two spans meet.
-pub(crate) fn spans_meet<K: KeyKind>(a: Option<KeyRange<K>>, b: Option<KeyRange<K>>) -> bool
-    ensures { result ≡ spans_meet K.ranks a b }
-{
-    match (a, b) {
-        (Some(a), Some(b)) => a.overlaps_with_key_range(&b),
-        _ => false,
+impl<'a, K: KeyKind> BookTest<'a, K> {
+    // Whether each table of the level is one of these numbers or clear of the span.
+    pub(crate) fn are_clear(&self, level: u8, numbers: &[u64], span: Option<KeyRange<K>>) -> bool
+        ensures { result ≡ list_all (clear_by K.ranks level numbers.now span) self.now.tables.now }
+    {
+        self.tables
+            .iter()
+            .all(|t| is_clear(t, level, numbers, span))
     }
-}
 
-// Whether each table of the level is one of these numbers or clear of the span.
-pub(crate) fn are_clear<K: KeyKind>(
-    tables: &[Table<K>],
-    level: u8,
-    numbers: &[u64],
-    span: Option<KeyRange<K>>,
-) -> bool
-    ensures { result ≡ list_all (clear_by K.ranks level numbers.now span) tables.now }
-{
-    tables.iter().all(|t| is_clear(t, level, numbers, span))
+    // Whether no two of the tables of these numbers meet: each table is looked up once.
+    pub(crate) fn are_apart(&self, numbers: &[u64]) -> bool
+        ensures { result ≡ unmet K.ranks (filter (named numbers.now) self.now.tables.now) }
+    {
+        let marks = marks_of(self.tables, |t| numbers.contains(&t.number));
+        marked_are_apart(self.tables, &marks)
+    }
 }
 
 // Whether a table is outside the level, clear of the span, or one of these numbers, which is looked up last.
@@ -46,27 +43,6 @@ fn meets_it<K: KeyKind>(span: Option<KeyRange<K>>, t: &Table<K>) -> bool
     ensures { result ≡ meets_span K.ranks (λ u. u.range) span t.now }
 {
     span.is_some_and(|span| t.range.overlaps_with_key_range(&span))
-}
-
-// Whether no two of the tables of these numbers meet: each table is looked up once.
-pub(crate) fn are_apart<K: KeyKind>(tables: &[Table<K>], numbers: &[u64]) -> bool
-    requires { length tables.now ≤ 1024 }
-    ensures { result ≡ unmet K.ranks (filter (named numbers.now) tables.now) }
-{
-    let marks = marks_of(tables, numbers);
-    marked_are_apart(tables, &marks)
-}
-
-// A mark for each table: whether it is one of these numbers. The marks lie beside the tables, in fixed memory: no heap is used.
-fn marks_of<K>(tables: &[Table<K>], numbers: &[u64]) -> [bool; MOST_TABLES]
-    requires { length tables.now ≤ 1024 }
-    ensures { take (length tables.now) result ≡ map (named numbers.now) tables.now }
-{
-    let mut marks = [false; MOST_TABLES];
-    for (i, t) in tables.iter().enumerate() {
-        marks[i] = numbers.contains(&t.number);
-    }
-    marks
 }
 
 // Whether no two of the marked tables meet.

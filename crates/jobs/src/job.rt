@@ -3,13 +3,16 @@ ghost use Rattle.std.specs.Prelude.{◌≤◌};
 
 pub mod ops;
 
-/// What a slot runs. A move or a merge has the level that takes its tables.
-/// `Free` stands beside the others, so that a slot matches its own state and the event together.
+use crate::sound::MOST_HIDDEN;
+
+/// What is done with a job's tables.
 #[derive(Clone, Copy)]
-pub enum State {
-    Free,
+pub enum Task {
+    /// They go to this level as they are.
     Move(u8),
+    /// They make room for the outputs at this level.
     Merge(u8),
+    /// They leave.
     Drop,
 }
 
@@ -22,25 +25,12 @@ pub enum Event {
     GiveUp,
 }
 
-/// What is to be done with the tables of a job that ends.
-#[derive(Clone, Copy)]
-pub enum Effect {
-    /// They go to this level as they are.
-    ChangeLevels(u8),
-    /// They make room for the outputs at this level.
-    SwapForOutputs(u8),
-    /// They leave.
-    Remove,
-    /// They stay as they are.
-    Keep,
-}
-
-/// A slot of the book. A running job has the numbers of its tables.
+/// A slot of the book: its state is what it runs, if anything. A running job has the numbers of its tables.
 /// They lie in the slot itself: the book's memory is fixed, and no heap is used.
 #[derive(Clone, Copy)]
 pub struct Job {
-    state: State,
-    numbers: [u64; 256],
+    state: Option<Task>,
+    numbers: [u64; MOST_HIDDEN],
     count: usize,
     ghost few: { count ≤ 256 },
 }

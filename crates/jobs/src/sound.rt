@@ -2,7 +2,6 @@
 ghost use Rattle.std.specs.Prelude.{◌≡◌, ◌≤◌, ◌&&◌, map, length, filter, nat_le};
 ghost use Rattle.std.specs.List.{list_any, list_all};
 ghost use Rattle.runs.specs.Run.{span_of};
-ghost use Rattle.sheets.specs.HiddenSet.{hidden};
 ghost use Rattle.sheets.specs.Sound.{distinct};
 ghost use Rattle.sheets.specs.Tables.{memb, named};
 ghost use Rattle.strategies.specs.Strategy.{spans_meet};
@@ -10,16 +9,16 @@ ghost use Rattle.books.specs.Booked.{pairs_by, kind_ok, job_ok, jobs_apart, book
 ghost use Rattle.books.specs.Job.{running};
 ghost use Rattle.jobs.specs.Held.{clear_by};
 ghost use Rattle.jobs.specs.Sound.{taken, owned, free_or, free_or_so, level_in, same_level, span_in, apart_by};
-ghost use Rattle.jobs.specs.View.{slot, slot_as, numbers_in};
+ghost use Rattle.jobs.specs.View.{slot, job_over, numbers_in};
 
-use crate::held::{are_apart, are_clear, spans_meet};
-use crate::job::{Job, State};
+use crate::job::{Job, Task};
 use edits::records::{has_number, span_held};
 use keys::key_kind::KeyKind;
 use keys::key_range::KeyRange;
 use runs::table::Table;
 use sheets::hidden_set::HiddenSet;
-use sheets::sound::LAST_LEVEL;
+use sheets::sound::{LAST_LEVEL, numbers_differ};
+use strategies::spans::spans_meet;
 
 /// The most tables that running jobs may hide together.
 pub const MOST_HIDDEN: usize = 256;
@@ -40,14 +39,14 @@ pub(crate) struct BookTest<'a, K> {
 impl<'a, K: KeyKind> BookTest<'a, K> {
     // Whether hidden numbers and jobs are sound with the standing tables.
     pub fn is_passed(&self) -> bool
-        ensures { result ≡ book_ok K.ranks self.now.tables.now (hidden self.now.hidden_set.now) (running (map slot self.now.jobs.now)) }
+        ensures { result ≡ book_ok K.ranks self.now.tables.now self.now.hidden_set.now (running (map slot self.now.jobs.now)) }
     {
         self.are_owned() && self.are_lawful()
     }
 
     // Whether the hidden numbers are not too many, differ, and each stands and is a running job's.
     fn are_owned(&self) -> bool
-        ensures { result ≡ owned self.now.tables.now self.now.jobs.now (hidden self.now.hidden_set.now) }
+        ensures { result ≡ owned self.now.tables.now self.now.jobs.now self.now.hidden_set.now }
     {
         let numbers = self.hidden_set.as_slice();
         numbers.len() <= MOST_HIDDEN && are_distinct(numbers) && self.are_taken(numbers)
@@ -69,49 +68,59 @@ impl<'a, K: KeyKind> BookTest<'a, K> {
 
     // Whether each job is kept, and each two of them are apart.
     fn are_lawful(&self) -> bool
-        ensures { result ≡ (list_all (λ job. free_or (job_ok K.ranks self.now.tables.now (hidden self.now.hidden_set.now)) (slot job)) self.now.jobs.now && pairs_by (λ a b. free_or_so (jobs_apart K.ranks self.now.tables.now) (slot a) (slot b)) self.now.jobs.now) }
+        ensures { result ≡ (list_all (λ job. free_or (job_ok K.ranks self.now.tables.now self.now.hidden_set.now) (slot job)) self.now.jobs.now && pairs_by (λ a b. free_or_so (jobs_apart K.ranks self.now.tables.now) (slot a) (slot b)) self.now.jobs.now) }
     {
         self.are_kept() && self.all_apart()
     }
 
     // Whether each job is kept.
     fn are_kept(&self) -> bool
-        ensures { result ≡ list_all (λ job. free_or (job_ok K.ranks self.now.tables.now (hidden self.now.hidden_set.now)) (slot job)) self.now.jobs.now }
+        ensures { result ≡ list_all (λ job. free_or (job_ok K.ranks self.now.tables.now self.now.hidden_set.now) (slot job)) self.now.jobs.now }
     {
         self.jobs.iter().all(|job| self.is_kept(job))
     }
 
     // Whether the job of a slot, if any, has a table, all its tables are hidden, and it keeps what its kind asks.
     fn is_kept(&self, job: &Job) -> bool
-        ensures { result ≡ free_or (job_ok K.ranks self.now.tables.now (hidden self.now.hidden_set.now)) (slot job.now) }
+        ensures { result ≡ free_or (job_ok K.ranks self.now.tables.now self.now.hidden_set.now) (slot job.now) }
     {
         let numbers = job.numbers();
-        job.is_free()
-            || (!numbers.is_empty()
-                && self.are_hidden(numbers)
-                && self.keeps_its_kind(job.state(), numbers))
+        match job.state() {
+            Some(task) => {
+                !numbers.is_empty()
+                    && self.are_hidden(numbers)
+                    && self.keeps_its_kind(task, numbers)
+            }
+            None => true,
+        }
     }
 
     // Whether each of the numbers is hidden.
     fn are_hidden(&self, numbers: &[u64]) -> bool
-        ensures { result ≡ list_all (λ n. memb n (hidden self.now.hidden_set.now)) numbers.now }
+        ensures { result ≡ list_all (λ n. memb n self.now.hidden_set.now) numbers.now }
     {
         numbers
             .iter()
             .all(|number| self.hidden_set.is_hidden(*number))
     }
 
-    // Whether what a slot runs over the tables of these numbers keeps what its kind asks.
-    fn keeps_its_kind(&self, state: State, numbers: &[u64]) -> bool
-        ensures { result ≡ free_or (λ j. kind_ok K.ranks self.now.tables.now j j.kind) (slot_as state numbers.now) }
+    // Whether what is done with the tables of these numbers keeps what its kind asks.
+    fn keeps_its_kind(&self, task: Task, numbers: &[u64]) -> bool
+        ensures { result ≡ kind_ok K.ranks self.now.tables.now (job_over task numbers.now) (job_over task numbers.now).kind }
     {
-        match state {
-            State::Move(level) => {
-                has_free_way(self.tables, level, numbers) && are_apart(self.tables, numbers)
-            }
-            State::Merge(level) => has_free_way(self.tables, level, numbers),
-            State::Free | State::Drop => true,
+        match task {
+            Task::Move(level) => self.has_free_way(level, numbers) && self.are_apart(numbers),
+            Task::Merge(level) => self.has_free_way(level, numbers),
+            Task::Drop => true,
         }
+    }
+
+    // Whether the level is one from 1 to 6 in which only the tables of these numbers meet their span.
+    fn has_free_way(&self, level: u8, numbers: &[u64]) -> bool
+        ensures { result ≡ (nat_le 1 level && (nat_le level 6 && list_all (clear_by K.ranks level numbers.now (span_of K.ranks (λ t. t.range) (filter (named numbers.now) self.now.tables.now))) self.now.tables.now)) }
+    {
+        (1..=LAST_LEVEL).contains(&level)
+            && self.are_clear(level, numbers, span_held(self.tables, numbers))
     }
 
     // Whether each two of the jobs are apart.
@@ -120,78 +129,54 @@ impl<'a, K: KeyKind> BookTest<'a, K> {
     {
         let mut rest = self.jobs;
         while let Some((job, others)) = rest.split_first() {
-            if !is_apart(self.tables, job, others) {
+            if !self.is_apart(job, others) {
                 return false;
             }
             rest = others;
         }
         true
     }
+
+    // Whether a job is apart from each of the others.
+    fn is_apart(&self, job: &Job, others: &[Job]) -> bool
+        ensures { result ≡ list_all (λ other. free_or_so (jobs_apart K.ranks self.now.tables.now) (slot job.now) (slot other)) others.now }
+    {
+        let span = self.job_span(job);
+        others
+            .iter()
+            .all(|other| self.are_two_apart(job, span, other))
+    }
+
+    // Whether two jobs have no table in common and do not cross; the span is of the first's tables.
+    fn are_two_apart(&self, job: &Job, span: Option<KeyRange<K>>, other: &Job) -> bool
+        ensures { result ≡ apart_by K.ranks self.now.tables.now span (slot job.now) (slot other.now) }
+    {
+        !job.shares_one_with(other) && !self.crosses(job, span, other)
+    }
+
+    // Whether two jobs go to one level, and the span of the first's tables meets that of the second's.
+    fn crosses(&self, job: &Job, span: Option<KeyRange<K>>, other: &Job) -> bool
+        ensures { result ≡ (same_level (level_in (slot job.now)) (level_in (slot other.now)) && spans_meet K.ranks span (span_in K.ranks self.now.tables.now (slot other.now))) }
+    {
+        let level = job.dest_level();
+        level.is_some() && level == other.dest_level() && spans_meet(span, self.job_span(other))
+    }
+
+    // The span of a job's tables.
+    fn job_span(&self, job: &Job) -> Option<KeyRange<K>>
+        ensures { result ≡ span_in K.ranks self.now.tables.now (slot job.now) }
+    {
+        span_held(self.tables, job.numbers())
+    }
 }
 
-// Whether no number stands twice.
+// Whether no number stands twice, asked of a copy, which is sorted.
 fn are_distinct(numbers: &[u64]) -> bool
+    requires { length numbers.now ≤ 256 }
     ensures { result ≡ distinct numbers.now }
 {
-    let mut rest = numbers;
-    while let Some((number, others)) = rest.split_first() {
-        if others.contains(number) {
-            return false;
-        }
-        rest = others;
-    }
-    true
-}
-
-// Whether the level is one from 1 to 6 in which only the tables of these numbers meet their span.
-fn has_free_way<K: KeyKind>(tables: &[Table<K>], level: u8, numbers: &[u64]) -> bool
-    ensures { result ≡ (nat_le 1 level && (nat_le level 6 && list_all (clear_by K.ranks level numbers.now (span_of K.ranks (λ t. t.range) (filter (named numbers.now) tables.now))) tables.now)) }
-{
-    (1..=LAST_LEVEL).contains(&level)
-        && are_clear(tables, level, numbers, span_held(tables, numbers))
-}
-
-// Whether a job is apart from each of the others.
-fn is_apart<K: KeyKind>(tables: &[Table<K>], job: &Job, others: &[Job]) -> bool
-    ensures { result ≡ list_all (λ other. free_or_so (jobs_apart K.ranks tables.now) (slot job.now) (slot other)) others.now }
-{
-    let span = span_held(tables, job.numbers());
-    others
-        .iter()
-        .all(|other| are_two_apart(tables, job, span, other))
-}
-
-// Whether two jobs have no table in common and do not cross; the span is of the first's tables.
-fn are_two_apart<K: KeyKind>(
-    tables: &[Table<K>],
-    job: &Job,
-    span: Option<KeyRange<K>>,
-    other: &Job,
-) -> bool
-    ensures { result ≡ apart_by K.ranks tables.now span (slot job.now) (slot other.now) }
-{
-    !share_one(job, other) && !crosses(tables, job, span, other)
-}
-
-// Whether two jobs have a table in common.
-fn share_one(a: &Job, b: &Job) -> bool
-    ensures { result ≡ list_any (λ n. memb n (numbers_in (slot b.now))) (numbers_in (slot a.now)) }
-{
-    let numbers = b.numbers();
-    a.numbers().iter().any(|number| numbers.contains(number))
-}
-
-// Whether two jobs go to one level, and the span of the first's tables meets that of the second's.
-fn crosses<K: KeyKind>(
-    tables: &[Table<K>],
-    job: &Job,
-    span: Option<KeyRange<K>>,
-    other: &Job,
-) -> bool
-    ensures { result ≡ (same_level (level_in (slot job.now)) (level_in (slot other.now)) && spans_meet K.ranks span (span_in K.ranks tables.now (slot other.now))) }
-{
-    let level = job.dest_level();
-    level.is_some()
-        && level == other.dest_level()
-        && spans_meet(span, span_held(tables, other.numbers()))
+    let mut room = [0u64; MOST_HIDDEN];
+    let copy = &mut room[..numbers.len()];
+    copy.copy_from_slice(numbers);
+    numbers_differ(copy)
 }

@@ -1,11 +1,14 @@
 //! What is asked of a slot, and how it changes.
 ghost use Rattle.std.specs.Prelude.{◌≡◌, ◌≤◌, not, length, is_some, None};
+ghost use Rattle.std.specs.List.{list_any};
+ghost use Rattle.sheets.specs.Tables.{memb};
 ghost use Rattle.books.specs.Job.{job_number, is_known};
 ghost use Rattle.jobs.specs.Job.{effect_of};
 ghost use Rattle.jobs.specs.Sound.{level_in};
 ghost use Rattle.jobs.specs.View.{slot, slot_as, numbers_in};
 
-use crate::job::{Effect, Event, Job, State};
+use crate::job::{Event, Job, Task};
+use crate::sound::MOST_HIDDEN;
 
 impl Job {
     /// A free slot.
@@ -13,8 +16,8 @@ impl Job {
         ensures { slot result ≡ None }
     {
         Job {
-            state: State::Free,
-            numbers: [0u64; 256],
+            state: None,
+            numbers: [0u64; MOST_HIDDEN],
             count: 0,
         }
     }
@@ -23,7 +26,7 @@ impl Job {
     pub fn is_free(&self) -> bool
         ensures { result ≡ not (is_some (slot self.now)) }
     {
-        matches!(self.state, State::Free)
+        self.state.is_none()
     }
 
     /// The numbers of the job's tables, none for a free slot.
@@ -31,13 +34,13 @@ impl Job {
         ensures { result.now ≡ numbers_in (slot self.now) }
     {
         match self.state {
-            State::Free => &[],
-            _ => &self.numbers[..self.count],
+            None => &[],
+            Some(_) => &self.numbers[..self.count],
         }
     }
 
-    /// What the slot runs.
-    pub fn state(&self) -> State
+    /// What the slot runs, if anything.
+    pub fn state(&self) -> Option<Task>
         ensures { slot self.now ≡ slot_as result (numbers_in (slot self.now)) }
     {
         self.state
@@ -48,8 +51,8 @@ impl Job {
         ensures { result ≡ level_in (slot self.now) }
     {
         match self.state {
-            State::Move(level) | State::Merge(level) => Some(level),
-            State::Free | State::Drop => None,
+            Some(Task::Move(level) | Task::Merge(level)) => Some(level),
+            Some(Task::Drop) | None => None,
         }
     }
 
@@ -60,8 +63,16 @@ impl Job {
         !self.is_free() && smallest(self.numbers()) == number
     }
 
-    /// Starts a job over the tables of these numbers. The book has few enough: hence the `requires`.
-    pub fn start(&mut self, state: State, numbers: &[u64])
+    // Whether two jobs have a table in common.
+    pub(crate) fn shares_one_with(&self, other: &Job) -> bool
+        ensures { result ≡ list_any (λ n. memb n (numbers_in (slot other.now))) (numbers_in (slot self.now)) }
+    {
+        let numbers = other.numbers();
+        self.numbers().iter().any(|number| numbers.contains(number))
+    }
+
+    /// Starts a job over the tables of these numbers, or frees the slot. The book has few enough: hence the `requires`.
+    pub fn start(&mut self, state: Option<Task>, numbers: &[u64])
         requires { length numbers.now ≤ 256 }
         ensures { slot self.new ≡ slot_as state numbers.now }
     {
@@ -71,20 +82,15 @@ impl Job {
         self.state = state;
     }
 
-    /// Ends the job: the slot is free, and what is to be done with the tables follows from its kind and the event.
-    pub fn end(&mut self, event: Event) -> Effect
+    /// Ends the job: the slot is free. What is to be done with the tables, nothing where they stay.
+    pub fn end(&mut self, event: Event) -> Option<Task>
         ensures effect { result ≡ effect_of self.old.state event }
         ensures free { slot self.new ≡ None }
     {
-        let effect = match (self.state, event) {
-            (State::Free, _) => Effect::Keep,
-            (State::Move(level), Event::Close) => Effect::ChangeLevels(level),
-            (State::Merge(level), Event::Close) => Effect::SwapForOutputs(level),
-            (State::Drop, Event::Close) => Effect::Remove,
-            (_, Event::GiveUp) => Effect::Keep,
-        };
-        self.state = State::Free;
-        effect
+        match (self.state.take(), event) {
+            (Some(task), Event::Close) => Some(task),
+            (Some(_), Event::GiveUp) | (None, _) => None,
+        }
     }
 }
 

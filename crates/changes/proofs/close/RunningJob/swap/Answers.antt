@@ -1,14 +1,12 @@
 use Rattle.std.proofs.Common.{◌≤◌, length, take, sym, subst, arith}
 use Rattle.strategies.specs.declared.choice.Kind.{Kind}
 use Rattle.changes.specs.Close.{swapped}
-use Rattle.changes.proofs.Swaps.{running, Swapped, left_le, swap_move, merged_length, swap_merge, swap_drop}
+use Rattle.changes.proofs.Swaps.{running, Swapped, left_le, swap_move, merged_length, swap_merge}
 use Rattle.changes.proofs.close.RunningJob.swap.Goals as goal
 
-pub take_in-requires : goal.take_in-requires
-take_in-requires g c = record {
-  within = left_le g.K.KeyKind.ranks c.args.self.now.destination c.args.self.now.numbers.now c.args.outputs.now c.args.sheet.now c.args.standing c.requires.within c.part-left.result c.part-left.ensures.count;
-  fits = omega (arith, c.requires.within, c.part-left.auto.sheet);
-}
+pub take_in-requires-clause-within : goal.take_in-requires-clause-within
+take_in-requires-clause-within g c =
+    left_le g.K.KeyKind.ranks c.args.self.now.destination c.args.self.now.numbers.now c.args.outputs.now c.args.sheet.now c.args.standing c.requires.within c.part-left.result c.part-left.ensures.count
 
 pub settle-requires : goal.settle-requires
 settle-requires g c =
@@ -34,13 +32,4 @@ returns-in-Merge g c =
     let fs = c.args.outputs.now in
     let all = subst (λ (k : Kind). Swapped cmp k c.args.self.now.destination c.args.self.now.numbers.now fs s c.settle.new.sheet n c.settle.result) (sym c.in-Merge.is)
     (swap_merge cmp c.args.self.now.destination c.args.self.now.numbers.now fs s n c.requires.within c.remove_all-left.result c.remove_all-left.ensures.count c.remove_all-left.new.sheet c.settle.new.sheet c.settle.result c.settle.ensures.count c.remove_all-left.ensures.sheet c.settle.ensures.sheet) in
-    record { count = all.count; sheet = all.sheet }
-
-pub returns-in-Drop : goal.returns-in-Drop
-returns-in-Drop g c =
-    let cmp = g.K.KeyKind.ranks in
-    let s = c.args.sheet.now in
-    let n = c.args.standing in
-    let all = subst (λ (k : Kind). Swapped cmp k c.args.self.now.destination c.args.self.now.numbers.now c.args.outputs.now s c.remove_all.new.sheet n c.remove_all.result) (sym c.in-Drop.is)
-    (swap_drop cmp c.args.self.now.destination c.args.self.now.numbers.now c.args.outputs.now s n c.requires.within c.remove_all.result c.remove_all.ensures.count c.remove_all.new.sheet c.remove_all.ensures.sheet) in
     record { count = all.count; sheet = all.sheet }
