@@ -1,5 +1,5 @@
 -- A tour that is dropped: what naming and removing gave is what the definitions say.
-use Rattle.std.proofs.Common.{◌≡◌, ℕ, ◌≤◌, List, length, take, Ok, Err, Result, sym, ap, ◌∙◌}
+use Rattle.std.proofs.Common.{◌≡◌, ℕ, ◌≤◌, List, length, take, Ok, Result, sym, ap, ◌∙◌}
 use Rattle.std.proofs.lemmas.Bool.{cond_above}
 use Rattle.refusals.specs.declared.refusal.Refusal.{Refusal}
 use Rattle.keys.specs.declared.bounds.OwnedBounds.{OwnedBounds}
@@ -16,13 +16,7 @@ use Rattle.drop_tour.specs.declared.tour.Dropped.{Dropped}
 use Rattle.drop_tour.specs.Tour.{bounds_of, of_tour, staying, told, kept_unless, dropped, left, written}
 
 module _ (tour count : ℕ) (sheet : List (Table StopKey)) (ids : List ℕ) (fits : count ≤ length sheet)
-    (b : OwnedBounds StopKey) (bounded : b ≡ bounds_of tour) (m : ℕ) (whole : m ≡ count) where
-  abbrev ts : List (Table StopKey)
-  ts = take m sheet
-
-  standing : ts ≡ take count sheet
-  standing = ap (λ n. take n sheet) whole
-
+    (b : OwnedBounds StopKey) (bounded : b ≡ bounds_of tour) (ts : List (Table StopKey)) (standing : ts ≡ take count sheet) where
   abbrev answer : Result Named Refusal
   answer = N.named (λ t. within stop_ranks b t.range) ts (length ids)
 

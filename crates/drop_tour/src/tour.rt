@@ -42,10 +42,11 @@ pub fn drop_tour(
     ensures sheet { sheet.new ≡ left tour count sheet.old (length ids.old) }
     ensures ids { ids.new ≡ written tour count sheet.old ids.old }
 {
-    if count > sheet.len() {
-        return Err(Refusal::NotSound);
-    }
-    let named = name_tables(&sheet[..count], &tour_bounds(tour), ids)?;
-    let standing = remove_all(sheet, count, &ids[..named.count]);
-    Ok(Dropped { named, standing })
+    let standing = sheet.get(..count).ok_or(Refusal::NotSound)?;
+    let named = name_tables(standing, &tour_bounds(tour), ids)?;
+    let left = remove_all(sheet, count, &ids[..named.count]);
+    Ok(Dropped {
+        named,
+        standing: left,
+    })
 }

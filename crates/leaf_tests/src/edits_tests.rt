@@ -6,8 +6,8 @@ use runs::table::Table;
 use std::process::Abort;
 
 fn numbers(rt: &impl Abort, sheet: &[Table<StopKey>; 4], expected: [u64; 4]) {
-    for i in 0..4 {
-        assert_eq!(rt; sheet[i].number, expected[i]);
+    for (table, number) in sheet.iter().zip(expected) {
+        assert_eq!(rt; table.number, number);
     }
 }
 

@@ -19,15 +19,13 @@ fn a_prefix_is_first(rt: HostRuntime) -> Result<(), Fail> {
 #[test]
 fn at_most_32_bytes(rt: HostRuntime) -> Result<(), Fail> {
     assert_eq!(rt; key(&[255u8; 32])?.as_slice().len(), 32);
-    match ByteKey::new(&[255u8; 33]) {
-        Ok(_) => Err(Fail::new("not refused")),
-        Err(refusal) => {
-            assert_eq!(rt; refusal.number(), 14);
-            assert_eq!(rt; refusal.layer().letter(), 'K');
-            assert_eq!(rt; refusal.place(), 32);
-            Ok(())
-        }
-    }
+    let refusal = ByteKey::new(&[255u8; 33])
+        .err()
+        .ok_or_else(|| Fail::new("not refused"))?;
+    assert_eq!(rt; refusal.number(), 14);
+    assert_eq!(rt; refusal.layer().letter(), 'K');
+    assert_eq!(rt; refusal.place(), 32);
+    Ok(())
 }
 
 #[test]

@@ -16,14 +16,10 @@ fn is_stretch<T>(
     place: usize,
     len: usize,
 ) -> Result<(), Fail> {
-    match answer {
-        Ok(stretch) => {
-            assert_eq!(rt; stretch.place, place);
-            assert_eq!(rt; stretch.tables.len(), len);
-            Ok(())
-        }
-        Err(_) => Err(Fail::new("refused")),
-    }
+    let stretch = answer.map_err(|_| Fail::new("refused"))?;
+    assert_eq!(rt; stretch.place, place);
+    assert_eq!(rt; stretch.tables.len(), len);
+    Ok(())
 }
 
 #[test]
@@ -32,10 +28,8 @@ fn an_empty_run(rt: HostRuntime) -> Result<(), Fail> {
     let run = Run { tables: &tables };
     is_stretch(&rt, run.get_overlapping(&stops(0, 9)), 0, 0)?;
     is_stretch(&rt, run.get_contained(&stops(0, 9)), 0, 0)?;
-    match run.aggregate_key_range() {
-        Ok(None) => Ok(()),
-        _ => Err(Fail::new("a span of nothing")),
-    }
+    assert!(rt; matches!(run.aggregate_key_range(), Ok(None)));
+    Ok(())
 }
 
 #[test]
@@ -95,14 +89,10 @@ fn spans(rt: HostRuntime) -> Result<(), Fail> {
         standing(2, 0, 30, 10),
         standing(3, 5, 7, 10),
     ];
-    match aggregate(&tables) {
-        Some(span) => {
-            assert_eq!(rt; span.min.stop, 0);
-            assert_eq!(rt; span.max.stop, 30);
-            Ok(())
-        }
-        None => Err(Fail::new("no span")),
-    }
+    let span = aggregate(&tables).ok_or_else(|| Fail::new("no span"))?;
+    assert_eq!(rt; span.min.stop, 0);
+    assert_eq!(rt; span.max.stop, 30);
+    Ok(())
 }
 
 #[test]

@@ -13,10 +13,7 @@ pub fn stop(stop: u32) -> StopKey {
 
 /// The key of some bytes.
 pub fn key(bytes: &[u8]) -> Result<ByteKey, Fail> {
-    match ByteKey::new(bytes) {
-        Ok(key) => Ok(key),
-        Err(_) => Err(Fail::new("too long")),
-    }
+    ByteKey::new(bytes).map_err(|_| Fail::new("too long"))
 }
 
 /// A range of stops of tour 0.

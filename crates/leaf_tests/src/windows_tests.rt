@@ -17,19 +17,12 @@ fn reads<T: TableFile>(
     windows: Result<Windows<'_, T>, Refusal>,
     expected: &[Expected],
 ) -> Result<(), Fail> {
-    let mut windows = match windows {
-        Ok(windows) => windows,
-        Err(_) => return Err(Fail::new("refused")),
-    };
+    let mut windows = windows.map_err(|_| Fail::new("refused"))?;
     for (start, len, bytes) in expected {
-        match windows.next() {
-            Some(read) => {
-                assert_eq!(rt; read.window.start, *start);
-                assert_eq!(rt; read.tables.len(), *len);
-                assert_eq!(rt; read.bytes, *bytes);
-            }
-            None => return Err(Fail::new("no window left")),
-        }
+        let read = windows.next().ok_or_else(|| Fail::new("no window left"))?;
+        assert_eq!(rt; read.window.start, *start);
+        assert_eq!(rt; read.tables.len(), *len);
+        assert_eq!(rt; read.bytes, *bytes);
     }
     assert!(rt; windows.next().is_none());
     Ok(())

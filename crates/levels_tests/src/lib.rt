@@ -30,10 +30,8 @@ mod tests {
     fn target(settings: Settings, level: u8) -> Option<u64>
         requires { 0 < level }
     {
-        match settings.check() {
-            Ok(()) => Some(settings.level_target_size(level)),
-            Err(_) => None,
-        }
+        settings.check().ok()?;
+        Some(settings.level_target_size(level))
     }
 
     fn is_bad(settings: Settings) -> bool {

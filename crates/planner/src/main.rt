@@ -5,62 +5,87 @@ mod desk;
 
 use anyhow::anyhow;
 use desk::Desk;
+use std::alloc::Global;
 use std::io::{BufRead, BufReader, BufWriter, Write};
 use std::{fmt, io};
 use texts::fault::Fault;
 
 /// Why the planner stops before the end of its script.
 #[derive(Drop)]
-enum Halt {
+enum Cause {
     /// A line was not carried out.
     Line(Fault),
     /// Standard input or standard output failed.
     Stream(io::Error),
 }
 
-impl From<Fault> for Halt {
-    fn from(fault: Fault) -> Halt {
-        Halt::Line(fault)
+impl From<Fault> for Cause {
+    fn from(fault: Fault) -> Cause {
+        Cause::Line(fault)
     }
 }
 
-impl From<io::Error> for Halt {
-    fn from(e: io::Error) -> Halt {
-        Halt::Stream(e)
+impl From<io::Error> for Cause {
+    fn from(e: io::Error) -> Cause {
+        Cause::Stream(e)
     }
 }
 
-impl fmt::Display for Halt {
+impl fmt::Display for Cause {
     fn fmt<W: fmt::Write>(&self, f: &mut fmt::Formatter<W>) -> fmt::Result {
         match self {
-            Halt::Line(fault) => write!(f, "{fault}"),
-            Halt::Stream(e) => write!(f, "{e}"),
+            Cause::Line(fault) => write!(f, "{fault}"),
+            Cause::Stream(e) => write!(f, "{e}"),
         }
     }
 }
 
-// Answers line after line. `at` is the number of the line that is read.
-fn answer_all(rt: &HostRuntime, writer: &mut impl Write, at: &mut u64) -> Result<(), Halt> {
+/// The line at which the planner stops, and why. Before the first line it is line 0.
+#[derive(Drop)]
+struct Halt {
+    line: u64,
+    cause: Cause,
+}
+
+impl fmt::Display for Halt {
+    fn fmt<W: fmt::Write>(&self, f: &mut fmt::Formatter<W>) -> fmt::Result {
+        write!(f, "line {}: {}", self.line, self.cause)
+    }
+}
+
+// Answers one line, as it was read.
+fn answer_line(
+    heap: Global,
+    desk: &mut Desk,
+    line: io::Result<String>,
+    writer: &mut impl Write,
+) -> Result<(), Cause> {
+    let mut out = String::new(heap);
+    desk.answer(heap, line?.as_str(), &mut out)?;
+    writer.write_all(out.as_bytes())?;
+    Ok(())
+}
+
+// Answers line after line.
+fn answer_all(rt: &HostRuntime, writer: &mut impl Write) -> Result<(), Halt> {
     let heap = rt.alloc();
     let mut desk = Desk::new();
-    let mut out = String::new(heap);
-    for line in BufReader::new(heap, rt.stdin())?.lines(heap) {
-        *at = at.wrapping_add(1);
-        let line = line?;
-        desk.answer(heap, line.as_str(), &mut out)?;
-        writer.write_all(out.as_bytes())?;
-        out.clear();
+    let reader = BufReader::new(heap, rt.stdin()).map_err(|e| Halt {
+        line: 0,
+        cause: Cause::Stream(e),
+    })?;
+    for (line, text) in (1..u64::MAX).zip(reader.lines(heap)) {
+        answer_line(heap, &mut desk, text, writer).map_err(|cause| Halt { line, cause })?;
     }
     Ok(())
 }
 
 fn main(rt: HostRuntime) -> anyhow::Result<()> {
     let mut writer = BufWriter::new(rt.alloc(), rt.stdout())?;
-    let mut at = 0;
-    let answered = answer_all(&rt, &mut writer, &mut at);
+    let answered = answer_all(&rt, &mut writer);
     writer.flush()?;
     if let Err(halt) = answered {
-        eprintln!(rt; "line {at}: {halt}")?;
+        eprintln!(rt; "{halt}")?;
         return Err(anyhow!("the script was not carried out to its end"));
     }
     Ok(())

@@ -1,5 +1,6 @@
 //! The lines of the answers.
-ghost use Rattle.std.specs.Prelude.{◌≡◌, ℕ, List, ◌++◌, Some, string_bytes, OnOk};
+ghost use Rattle.std.specs.Prelude.{◌≡◌, ℕ, List, ◌++◌, Some, string_bytes, OnOk, IfErr};
+ghost use Rattle.texts.specs.declared.fault.Fault.TheVariants.{Memory};
 ghost use Rattle.reports.specs.Report.{spaced, list_line, drop_line, opened_line, refused_line, table_line};
 
 use refusals::refusal::Refusal;
@@ -30,7 +31,8 @@ fn words(refusal: Refusal) -> &'static str {
 
 /// The line of a refusal.
 pub fn write_refusal(out: &mut String, refusal: Refusal) -> Result<(), Fault>
-    ensures { OnOk result ((words : List ℕ) × (string_bytes out.new ≡ string_bytes out.old ++ refused_line refusal words)) }
+    ensures line { OnOk result ((words : List ℕ) × (string_bytes out.new ≡ string_bytes out.old ++ refused_line refusal words)) }
+    ensures fails { IfErr result (λ e. e ≡ Memory) }
 {
     writeln!(
         out,
@@ -60,7 +62,8 @@ impl fmt::Display for Spaced<'_> {
 
 /// A line of numbers behind a title.
 pub fn write_list(out: &mut String, title: &str, numbers: &[u64]) -> Result<(), Fault>
-    ensures { OnOk result (string_bytes out.new ≡ string_bytes out.old ++ list_line title.now numbers.now) }
+    ensures line { OnOk result (string_bytes out.new ≡ string_bytes out.old ++ list_line title.now numbers.now) }
+    ensures fails { IfErr result (λ e. e ≡ Memory) }
 {
     writeln!(out, "{title}:{}", Spaced(numbers))?;
     Ok(())
@@ -68,7 +71,8 @@ pub fn write_list(out: &mut String, title: &str, numbers: &[u64]) -> Result<(), 
 
 /// The line of a drop: the bytes of the tables together, and their numbers.
 pub fn write_drop(out: &mut String, bytes: u64, numbers: &[u64]) -> Result<(), Fault>
-    ensures { OnOk result (string_bytes out.new ≡ string_bytes out.old ++ drop_line bytes numbers.now) }
+    ensures line { OnOk result (string_bytes out.new ≡ string_bytes out.old ++ drop_line bytes numbers.now) }
+    ensures fails { IfErr result (λ e. e ≡ Memory) }
 {
     writeln!(out, "drop bytes {bytes}:{}", Spaced(numbers))?;
     Ok(())
@@ -76,7 +80,8 @@ pub fn write_drop(out: &mut String, bytes: u64, numbers: &[u64]) -> Result<(), F
 
 /// The line of a book that was opened on some tables.
 pub fn write_opened(out: &mut String, count: usize) -> Result<(), Fault>
-    ensures { OnOk result (string_bytes out.new ≡ string_bytes out.old ++ opened_line count) }
+    ensures line { OnOk result (string_bytes out.new ≡ string_bytes out.old ++ opened_line count) }
+    ensures fails { IfErr result (λ e. e ≡ Memory) }
 {
     writeln!(out, "opened {count}")?;
     Ok(())
@@ -84,7 +89,8 @@ pub fn write_opened(out: &mut String, count: usize) -> Result<(), Fault>
 
 /// The line of a table.
 pub fn write_table<K: KeyText>(out: &mut String, table: &Table<K>) -> Result<(), Fault>
-    ensures { OnOk result (string_bytes out.new ≡ string_bytes out.old ++ table_line K.spelt table.now) }
+    ensures line { OnOk result (string_bytes out.new ≡ string_bytes out.old ++ table_line K.spelt table.now) }
+    ensures fails { IfErr result (λ e. e ≡ Memory) }
 {
     let (min, max) = (Spelt(&table.range.min), Spelt(&table.range.max));
     writeln!(

@@ -1,1 +1,2 @@
 pub mod Command
+pub mod Strategy

@@ -1,10 +1,13 @@
 //! The lines of a script.
-ghost use Rattle.scripts.specs.Command.{name_of, key_name_of, ReadsName};
+ghost use Rattle.std.specs.Prelude.{◌≡◌, IfOk};
+ghost use Rattle.texts.specs.declared.field.Field.TheVariants.{Places};
+ghost use Rattle.scripts.specs.Command.{name_of, key_name_of, word_of, ReadsName, ReadsLine, SaysNumber, SaysQuestion, SaysBody, SaysFresh, SaysTable, SaysArguments};
 
-use crate::strategy::Strategy;
+use crate::strategy::read_strategy;
 use keys::key_range::KeyRange;
 use runs::fresh::Fresh;
 use runs::table::Table;
+use standard::standard::Settings;
 use std::alloc::Global;
 use std::str::FromStr;
 use texts::fault::{Expected, Fault};
@@ -91,7 +94,9 @@ pub enum Line<'a> {
 
 impl<'a> Line<'a> {
     /// Reads the first word of a line.
-    pub fn read(text: &'a str) -> Result<Line<'a>, Fault> {
+    pub fn read(text: &'a str) -> Result<Line<'a>, Fault>
+        ensures { IfOk result (ReadsLine text.now) }
+    {
         let mut words = Words::new(text);
         match words.next() {
             None => Ok(Line::Blank),
@@ -105,11 +110,11 @@ impl<'a> Line<'a> {
     }
 }
 
-/// A clock, and the strategy that is asked.
+/// A clock, and the settings of the strategy that is asked.
 #[derive(Drop)]
 pub struct Question<K> {
     pub clock: u64,
-    pub strategy: Strategy<K>,
+    pub settings: Settings<K>,
 }
 
 /// What a line asks to be done.
@@ -138,17 +143,20 @@ pub enum Command<K> {
 
 impl<K: KeyText> Command<K> {
     /// Reads what stands behind the first word, to the end of the line.
-    pub fn read(heap: Global, word: Word, words: &mut Words<'_>) -> Result<Command<K>, Fault> {
+    pub fn read(heap: Global, word: Word, words: &mut Words<'_>) -> Result<Command<K>, Fault>
+        ensures word { IfOk result (λ c. word_of c ≡ word) }
+        ensures arguments { IfOk result (SaysArguments K.KeyText.says words.old) }
+    {
         match word {
-            Word::Sheet => Ok(Command::Sheet(last_number(words, Field::Places)? as usize)),
-            Word::Ids => Ok(Command::Ids(last_number(words, Field::Places)? as usize)),
-            Word::Table => Ok(Command::Table(read_table(heap, words)?)),
+            Word::Sheet => Ok(Command::Sheet(read_places(words)?)),
+            Word::Ids => Ok(Command::Ids(read_places(words)?)),
+            Word::Table => read_table(heap, words).map(Command::Table),
             Word::Open => Ok(Command::Open(last_number(words, Field::Blob)?)),
-            Word::Land => Ok(Command::Land(read_fresh(heap, words)?)),
-            Word::Propose => Ok(Command::Propose(read_question(heap, words)?)),
-            Word::LookAhead => Ok(Command::LookAhead(read_question(heap, words)?)),
-            Word::Book => Ok(Command::Book(read_question(heap, words)?)),
-            Word::Output => Ok(Command::Output(read_fresh(heap, words)?)),
+            Word::Land => read_fresh(heap, words).map(Command::Land),
+            Word::Propose => read_question(heap, words).map(Command::Propose),
+            Word::LookAhead => read_question(heap, words).map(Command::LookAhead),
+            Word::Book => read_question(heap, words).map(Command::Book),
+            Word::Output => read_fresh(heap, words).map(Command::Output),
             Word::Close => Ok(Command::Close(last_number(words, Field::Ticket)?)),
             Word::GiveUp => Ok(Command::GiveUp(last_number(words, Field::Ticket)?)),
             Word::Show => {
@@ -160,27 +168,42 @@ impl<K: KeyText> Command<K> {
 }
 
 // The one number of a line.
-fn last_number(words: &mut Words<'_>, field: Field) -> Result<u64, Fault> {
+fn last_number(words: &mut Words<'_>, field: Field) -> Result<u64, Fault>
+    ensures { IfOk result (SaysNumber field words.old) }
+{
     let n = words.number(field)?;
     words.end()?;
     Ok(n)
 }
 
+// How many places a sheet has.
+fn read_places(words: &mut Words<'_>) -> Result<usize, Fault>
+    ensures { IfOk result (SaysNumber Places words.old) }
+{
+    Ok(last_number(words, Field::Places)? as usize)
+}
+
 // A clock, then a strategy.
-fn read_question<K: KeyText>(heap: Global, words: &mut Words<'_>) -> Result<Question<K>, Fault> {
+fn read_question<K: KeyText>(heap: Global, words: &mut Words<'_>) -> Result<Question<K>, Fault>
+    ensures { IfOk result (SaysQuestion words.old) }
+{
     let clock = words.number(Field::Clock)?;
-    let strategy = Strategy::read(heap, words)?;
-    Ok(Question { clock, strategy })
+    let settings = read_strategy(heap, words)?;
+    Ok(Question { clock, settings })
 }
 
 // A table with no level and no run.
-fn read_fresh<K: KeyText>(heap: Global, words: &mut Words<'_>) -> Result<Fresh<K>, Fault> {
+fn read_fresh<K: KeyText>(heap: Global, words: &mut Words<'_>) -> Result<Fresh<K>, Fault>
+    ensures { IfOk result (SaysFresh K.KeyText.says words.old) }
+{
     let number = words.number(Field::Number)?;
     read_body(heap, number, words)
 }
 
 // A standing table: level and run stand behind its number.
-fn read_table<K: KeyText>(heap: Global, words: &mut Words<'_>) -> Result<Table<K>, Fault> {
+fn read_table<K: KeyText>(heap: Global, words: &mut Words<'_>) -> Result<Table<K>, Fault>
+    ensures { IfOk result (SaysTable K.KeyText.says words.old) }
+{
     let number = words.number(Field::Number)?;
     let level = words.number(Field::Level)? as u8;
     let run = words.number(Field::Run)? as u16;
@@ -193,7 +216,10 @@ fn read_body<K: KeyText>(
     heap: Global,
     number: u64,
     words: &mut Words<'_>,
-) -> Result<Fresh<K>, Fault> {
+) -> Result<Fresh<K>, Fault>
+    ensures number { IfOk result (λ f. f.number ≡ number) }
+    ensures body { IfOk result (λ f. SaysBody K.KeyText.says words.old f.range f.size f.created f.linked) }
+{
     let min = K::read_key(heap, words.expect(Expected::Key)?)?;
     let max = K::read_key(heap, words.expect(Expected::Key)?)?;
     let size = words.number(Field::Size)?;

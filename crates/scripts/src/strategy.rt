@@ -1,36 +1,24 @@
 //! A strategy and its settings, as a line says them.
-ghost use Rattle.std.specs.Prelude.{◌≤◌, length, from_bits};
+ghost use Rattle.std.specs.Prelude.{◌≡◌, ◌≢◌, ℕ, ◌≤◌, List, ◌++◌, length, codes, from_bits, IfOk};
 ghost use Rattle.std.specs.Float.{binary32};
+ghost use Rattle.std.specs.Float.Parse.{parse_float};
 ghost use Rattle.std.specs.Option.{SomeIff};
 ghost use Rattle.std.specs.Str.Parse.{IsNumeral, digits_value};
+ghost use Rattle.scripts.specs.Strategy.{SaysLeveled, SaysFifo, SaysMajor, SaysStrategy};
 
 use keys::bounds::OwnedBounds;
+use levels::settings::Settings as LeveledSettings;
 use refusals::refusal::Refusal;
+use standard::standard::Settings;
 use std::alloc::Global;
 use std::num::f32_from_bits_with_nan;
 use std::ops::Bound;
+use strategies::fifo::FifoSettings;
+use strategies::major::MajorSettings;
 use texts::fault::{Expected, Fault};
 use texts::field::Field;
 use texts::key_text::KeyText;
 use texts::words::Words;
-
-/// A strategy with its settings. Whether they are within their limits is the strategy's to say.
-#[derive(Drop)]
-pub enum Strategy<K> {
-    Leveled {
-        target: u64,
-        threshold: u32,
-        ratios: Vec<f32>,
-    },
-    Fifo {
-        limit: u64,
-        ttl: u64,
-    },
-    Major {
-        target: u64,
-    },
-    DropRange(OwnedBounds<K>),
-}
 
 // A ratio by the bits of an f32, one to eight hex digits. Those of a NaN stand for NaN.
 fn ratio_bits(digits: &str) -> Option<f32>
@@ -45,7 +33,10 @@ fn ratio_bits(digits: &str) -> Option<f32>
 }
 
 /// A ratio: a decimal, or `0x` and the bits of an f32.
-pub fn ratio(word: &str) -> Option<f32> {
+pub fn ratio(word: &str) -> Option<f32>
+    ensures bits { (digits : List ℕ) → word.now ≡ codes "0x" ++ digits → SomeIff result (IsNumeral 16 digits × (length digits ≤ 8)) (from_bits binary32 (digits_value 16 digits)) }
+    ensures decimal { ((digits : List ℕ) → word.now ≢ codes "0x" ++ digits) → result ≡ parse_float binary32 word.now }
+{
     if let Some(digits) = word.strip_prefix("0x") {
         return ratio_bits(digits);
     }
@@ -87,41 +78,48 @@ fn read_bounds<K: KeyText>(heap: Global, words: &mut Words<'_>) -> Result<OwnedB
 }
 
 // A target and a threshold, then ratios.
-fn read_leveled<K>(heap: Global, words: &mut Words<'_>) -> Result<Strategy<K>, Fault> {
+fn read_leveled(heap: Global, words: &mut Words<'_>) -> Result<LeveledSettings, Fault>
+    ensures { IfOk result (SaysLeveled words.old) }
+{
     let target = words.number(Field::Target)?;
     let threshold = words.number(Field::Threshold)? as u32;
     let ratios = ratios(heap, words)?;
-    Ok(Strategy::Leveled {
-        target,
-        threshold,
-        ratios,
-    })
+    Ok(
+        LeveledSettings::default()
+            .with_table_target_size(target)
+            .with_l0_threshold(threshold)
+            .with_level_ratio_policy(ratios.as_slice()),
+    )
 }
 
 // A limit and a time to live.
-fn read_fifo<K>(words: &mut Words<'_>) -> Result<Strategy<K>, Fault> {
+fn read_fifo(words: &mut Words<'_>) -> Result<FifoSettings, Fault>
+    ensures { IfOk result (SaysFifo words.old) }
+{
     let limit = words.number(Field::Limit)?;
-    let ttl = words.number(Field::Ttl)?;
+    let ttl_seconds = words.number(Field::Ttl)?;
     words.end()?;
-    Ok(Strategy::Fifo { limit, ttl })
+    Ok(FifoSettings { limit, ttl_seconds })
 }
 
 // A target.
-fn read_major<K>(words: &mut Words<'_>) -> Result<Strategy<K>, Fault> {
-    let target = words.number(Field::Target)?;
+fn read_major(words: &mut Words<'_>) -> Result<MajorSettings, Fault>
+    ensures { IfOk result (SaysMajor words.old) }
+{
+    let target_size = words.number(Field::Target)?;
     words.end()?;
-    Ok(Strategy::Major { target })
+    Ok(MajorSettings { target_size })
 }
 
-impl<K: KeyText> Strategy<K> {
-    /// The strategy that the rest of a line says.
-    pub fn read(heap: Global, words: &mut Words<'_>) -> Result<Strategy<K>, Fault> {
-        match words.expect(Expected::Strategy)? {
-            "leveled" => read_leveled(heap, words),
-            "fifo" => read_fifo(words),
-            "major" => read_major(words),
-            "drop-range" => read_bounds(heap, words).map(Strategy::DropRange),
-            _ => Err(Fault::Malformed(Expected::Strategy)),
-        }
+/// The settings of the strategy that the rest of a line says. Whether they are within their limits is the strategy's to say.
+pub fn read_strategy<K: KeyText>(heap: Global, words: &mut Words<'_>) -> Result<Settings<K>, Fault>
+    ensures { IfOk result (SaysStrategy words.old) }
+{
+    match words.expect(Expected::Strategy)? {
+        "leveled" => Ok(Settings::Leveled(read_leveled(heap, words)?)),
+        "fifo" => Ok(Settings::Fifo(read_fifo(words)?)),
+        "major" => Ok(Settings::Major(read_major(words)?)),
+        "drop-range" => read_bounds(heap, words).map(Settings::DropRange),
+        _ => Err(Fault::Malformed(Expected::Strategy)),
     }
 }

@@ -1,9 +1,9 @@
 -- One pair of hex digits further.
-use Rattle.std.proofs.Common.{◌≡◌, ℕ, zero, suc, ◌+◌, ◌*◌, ◌/◌, ◌%◌, ◌<◌, ◌≤◌, List, [], ◌∷◌, ◌++◌, length, get_or, take, drop, Some, None, Option, sym, refl, ap, ◌∙◌, append_assoc, append-nil, arith}
+use Rattle.std.proofs.Common.{◌≡◌, ℕ, zero, suc, ◌+◌, ◌*◌, ◌/◌, ◌%◌, ◌<◌, List, [], ◌∷◌, ◌++◌, length, get_or, take, drop, Some, None, Option, sym, refl, ap, ◌∙◌, append_assoc, arith}
 use Rattle.std.specs.Option.{option_map}
 use Rattle.std.specs.Simd.{first_chunks}
 use Rattle.std.specs.Char.{digit_char}
-use Rattle.std.proofs.lemmas.List.{drop_all, take_more, flat_map_more}
+use Rattle.std.proofs.lemmas.List.{take_more, flat_map_more}
 use Rattle.texts.specs.Hex.{digit_of, byte_of, before, bytes_of, hexed}
 
 joined : (xs : List ℕ) (b : ℕ) (m : Option ℕ) (o : Option (List ℕ)) → m ≡ Some b → option_map (λ t. (xs ++ (b ∷ [])) ++ t) o ≡ option_map (λ t. xs ++ t) (before m o)
@@ -47,12 +47,6 @@ module _ (whole : Option (List ℕ)) (xs : List ℕ) (pairs : List (List ℕ)) (
 
   pub bytes_more : (ys : List ℕ) (b : ℕ) → m ≡ Some b → ys ≡ xs ++ (b ∷ []) → option_map (λ t. ys ++ t) (pairs_bytes (drop (i + 1) pairs)) ≡ whole
   bytes_more ys b e push = rw push (joined xs b m (pairs_bytes (drop (i + 1) pairs)) e ∙ step)
-
-  pub bytes_bad : m ≡ None → None ≡ whole
-  bytes_bad e = ap (λ o. option_map (λ t. xs ++ t) (before o (pairs_bytes (drop (i + 1) pairs)))) (sym e) ∙ step
-
-pub bytes_all : (whole : Option (List ℕ)) (xs : List ℕ) (pairs : List (List ℕ)) (i : ℕ) → length pairs ≤ i → option_map (λ t. xs ++ t) (pairs_bytes (drop i pairs)) ≡ whole → Some xs ≡ whole
-bytes_all whole xs pairs i h inv = ap Some (sym (append-nil xs)) ∙ sym (ap (λ ps. option_map (λ t. xs ++ t) (pairs_bytes ps)) (drop_all i pairs h)) ∙ inv
 
 -- one byte further
 pub hexed_more : (bs : List ℕ) (i : ℕ) → i < length bs → hexed (take i bs) ++ (digit_char (get_or bs i 0 / 16) ∷ digit_char (get_or bs i 0 % 16) ∷ []) ≡ hexed (take (i + 1) bs)

@@ -1,4 +1,3 @@
-mod Comments
 mod Hexes
 mod Numbers
 mod Stops

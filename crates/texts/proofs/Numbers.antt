@@ -1,5 +1,5 @@
 -- What std's reading of a number says of decimal digits alone.
-use Rattle.std.proofs.Common.{◌≡◌, ℕ, ◌^◌, ◌<◌, ◌≤◌, true, ◌&&◌, ltb, leb, List, length, get_or, Some, None, Ok, Err, Option, Result, refl, ◌∙◌, arith, MatchOption}
+use Rattle.std.proofs.Common.{◌≡◌, ℕ, ◌^◌, ◌<◌, true, ◌&&◌, ltb, leb, List, length, get_or, Some, None, Ok, Err, Option, Result, refl, ◌∙◌, arith, MatchOption}
 use Rattle.std.specs.Bool.{then_some}
 use Rattle.std.specs.Result.{result_ok}
 use Rattle.std.specs.Str.Parse.{digits_value, ParsesUnsigned}

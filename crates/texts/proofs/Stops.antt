@@ -1,9 +1,9 @@
 -- A word that is cut at its first colon, and the stop key that it says.
-use Rattle.std.proofs.Common.{◌≡◌, ℕ, ◌-◌, ◌^◌, true, ◌&&◌, ltb, leb, List, length, Some, None, Ok, Option, Result, refl, ap, arith, Bor, MatchOption}
+use Rattle.std.proofs.Common.{◌≡◌, ℕ, ◌-◌, ◌^◌, true, ◌&&◌, ltb, leb, List, length, Some, None, Option, Result, ap, arith, Bor, MatchOption}
 use Rattle.std.specs.Str.Parse.{digits_value}
 use Rattle.std.specs.Str.{all_ascii_digits}
 use Rattle.std.proofs.lemmas.Str.Parse.{not_in_digits}
-use Rattle.std.proofs.lemmas.Str.Pattern.{IsSplitOnceResult, split_after, split_parts}
+use Rattle.std.proofs.lemmas.Str.Pattern.{IsSplitOnceResult, split_after}
 use Rattle.std.proofs.lemmas.Option.{MatchOption-at_some, MatchOption-at_none}
 use Rattle.std.proofs.lemmas.Bool.{cond_both, and_parts}
 use Rattle.refusals.specs.declared.refusal.Refusal.{Refusal}
@@ -37,15 +37,3 @@ module _ (w : List ℕ) (r : Option (Bor (List ℕ) × Bor (List ℕ))) (cut : I
     no_stop n k word =
         let p = MatchOption-at_some _ _ x e (parts k word) in
         cc (ap (decimal_of (2 ^ 32 - 1)) p.1, word.stop)
-
-    pub stop_word : (tour stop : ℕ) → decimal_of (2 ^ 32 - 1) x.0.now ≡ Some tour → decimal_of (2 ^ 32 - 1) x.1.now ≡ Some stop → StopWord w (Ok (record { tour = tour; stop = stop }))
-    stop_word tour stop p q =
-        record {
-          before = x.0.now;
-          after = x.1.now;
-          key = record { tour = tour; stop = stop };
-          whole = (MatchOption-at_some _ _ x e (split_parts 58 w r cut (omega arith))).0;
-          tour = p;
-          stop = q;
-          is = refl;
-        }

@@ -4,7 +4,6 @@ use Rattle.refusals.specs.declared.refusal.Refusal.{Refusal}
 use Rattle.refusals.specs.declared.refusal.Refusal.TheVariants.{KeyTooLong}
 use Rattle.keys.specs.declared.byte_key.ByteKey.{ByteKey}
 use Rattle.keys.specs.declared.stop_key.StopKey.{StopKey}
-use Rattle.keys.specs.ByteKey.{held, made}
 use Rattle.texts.specs.declared.fault.Fault.{Fault}
 use Rattle.texts.specs.declared.fault.Fault.TheVariants.{Malformed, Refused, NotBuilt, Memory}
 use Rattle.texts.specs.Hex.{bytes_of, hexed}
@@ -41,7 +40,7 @@ word_bytes (c ∷ d ∷ cs) = bytes_of (c ∷ d ∷ cs)
 pub record ByteWord (w : List ℕ) (r : Result ByteKey Refusal) : Type 0 where
   pub bytes : List ℕ
   pub whole : word_bytes w ≡ Some bytes
-  pub is : made r ≡ cond (nat_lt 32 (length bytes)) (Err KeyTooLong) (Ok bytes)
+  pub is : r ≡ cond (nat_lt 32 (length bytes)) (Err KeyTooLong) (Ok bytes)
 
 -- two hex digits for each byte, and `-` for none
 abbrev pub bytes_text : List ℕ → List ℕ
@@ -49,4 +48,4 @@ bytes_text [] = 45 ∷ []
 bytes_text (b ∷ bs) = hexed (b ∷ bs)
 
 abbrev pub byte_text : ByteKey → List ℕ
-byte_text k = bytes_text (held k)
+byte_text = bytes_text

@@ -6,7 +6,6 @@ use Rattle.std.specs.declared.str.SplitWhitespace.{SplitWhitespace}
 use Rattle.std.specs.Str.Iter.{split_whitespace_steps}
 use Rattle.std.specs.Str.Parse.{digits_value}
 use Rattle.std.specs.Str.{all_ascii_digits}
-use Rattle.texts.specs.declared.words.Words.{Words}
 
 -- one decimal digit or more, and nothing else, that write a number of at most `most`
 abbrev pub decimal_of : ℕ → List ℕ → Option ℕ
@@ -15,10 +14,6 @@ decimal_of most ds = cond (all_ascii_digits ds && (nat_lt 0 (length ds) && nat_l
 -- a comment begins at the first #
 abbrev pub uncommented : List ℕ → List ℕ
 uncommented line = before_first (λ c. c == 35) line
-
--- what is left of a line
-abbrev pub words_rest : Words → SplitWhitespace
-words_rest words = words.rest
 
 -- the next word writes the number n
 pub record NextNumber (most : ℕ) (before : SplitWhitespace) (n : ℕ) (after : SplitWhitespace) : Type 0 where

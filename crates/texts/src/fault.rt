@@ -109,10 +109,7 @@ impl fmt::Display for Fault {
     fn fmt<W: fmt::Write>(&self, f: &mut fmt::Formatter<W>) -> fmt::Result {
         match *self {
             Fault::Malformed(expected) => write!(f, "expected {expected}"),
-            Fault::Refused(refusal) => {
-                let number = refusal.number();
-                write!(f, "refused {number}")
-            }
+            Fault::Refused(refusal) => write!(f, "refused {}", refusal.number()),
             Fault::NotBuilt => f.write_str("this word is not built yet"),
             Fault::Memory => f.write_str("there is no memory left"),
         }

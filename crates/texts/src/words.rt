@@ -5,16 +5,25 @@ ghost use Rattle.std.specs.Str.Iter.{split_whitespace_rest, split_whitespace_ste
 ghost use Rattle.texts.specs.declared.fault.Expected.TheVariants.{End, Number};
 ghost use Rattle.texts.specs.declared.fault.Fault.TheVariants.{Malformed};
 ghost use Rattle.texts.specs.Field.{most_of};
-ghost use Rattle.texts.specs.Words.{decimal_of, uncommented, words_rest, NextNumber};
+ghost use Rattle.texts.specs.Words.{decimal_of, uncommented, NextNumber};
 
 use crate::fault::{Expected, Fault};
 use crate::field::Field;
+use std::marker::Model;
 use std::str::SplitWhitespace;
 
 /// The words of a line that are still to be read.
 #[derive(Drop)]
 pub struct Words<'a> {
     rest: SplitWhitespace<'a>,
+}
+
+impl<'a> Model for Words<'a> {
+    ghost use Rattle.std.specs.declared.str.SplitWhitespace.{SplitWhitespace};
+
+    ghost Value = { SplitWhitespace };
+
+    ghost view = { λ words. words.rest };
 }
 
 // The number that decimal digits write, where it is at most `most`. There is no sign.
@@ -38,9 +47,9 @@ impl<'a> Iterator for Words<'a> {
     type Item = &'a str;
 
     // The next word, if any.
-    ghost next_gives = { λ before word after. split_whitespace_steps (words_rest before) word (words_rest after) };
+    ghost next_gives = { λ before word after. split_whitespace_steps before word after };
 
-    ghost remaining = { λ words. at_most (length (split_whitespace_rest (words_rest words))) };
+    ghost remaining = { λ words. at_most (length (split_whitespace_rest words)) };
 
     fn next(&mut self) -> Option<&'a str> {
         self.rest.next()
@@ -50,7 +59,7 @@ impl<'a> Iterator for Words<'a> {
 impl<'a> Words<'a> {
     /// The words of a line, without its comment.
     pub fn new(line: &'a str) -> Words<'a>
-        ensures { split_whitespace_rest (words_rest result) ≡ uncommented line.now }
+        ensures { split_whitespace_rest result ≡ uncommented line.now }
     {
         Words {
             rest: uncomment(line).split_whitespace(),
@@ -59,14 +68,14 @@ impl<'a> Words<'a> {
 
     /// The next word, which has to be there.
     pub fn expect(&mut self, expected: Expected) -> Result<&'a str, Fault>
-        ensures { MatchResult result (λ word. split_whitespace_steps (words_rest self.old) (Some word) (words_rest self.new)) (λ e. (e ≡ Malformed expected) × split_whitespace_steps (words_rest self.old) None (words_rest self.new)) }
+        ensures { MatchResult result (λ word. split_whitespace_steps self.old (Some word) self.new) (λ e. (e ≡ Malformed expected) × split_whitespace_steps self.old None self.new) }
     {
         self.next().ok_or(Fault::Malformed(expected))
     }
 
     /// Nothing more on the line.
     pub fn end(&mut self) -> Result<(), Fault>
-        ensures { MatchResult result (λ _. split_whitespace_steps (words_rest self.old) None (words_rest self.new)) (λ e. e ≡ Malformed End) }
+        ensures { MatchResult result (λ _. split_whitespace_steps self.old None self.new) (λ e. e ≡ Malformed End) }
     {
         match self.next() {
             Some(_) => Err(Fault::Malformed(Expected::End)),
@@ -76,7 +85,7 @@ impl<'a> Words<'a> {
 
     /// The next word as a number of its own width.
     pub fn number(&mut self, field: Field) -> Result<u64, Fault>
-        ensures word { MatchResult result (λ n. NextNumber (most_of field) (words_rest self.old) n (words_rest self.new)) (λ e. e ≡ Malformed (Number field)) }
+        ensures word { MatchResult result (λ n. NextNumber (most_of field) self.old n self.new) (λ e. e ≡ Malformed (Number field)) }
         ensures bound { IfOk result (λ n. n ≤ most_of field) }
     {
         let expected = Expected::Number(field);

@@ -1,7 +1,7 @@
 use Rattle.std.proofs.Common.{sym, ◌∙◌}
 use Rattle.texts.specs.KeyText.{StopWord}
 use Rattle.texts.proofs.Readings.{malformed}
-use Rattle.texts.proofs.Stops.{no_colon, no_tour, no_stop, stop_word}
+use Rattle.texts.proofs.Stops.{no_colon, no_tour, no_stop}
 use Rattle.texts.proofs.key_text.StopKeyKeyText.read_key.Goals as goal
 
 pub returns-in_err-before : goal.returns-in_err-before
@@ -20,6 +20,3 @@ returns-in_err-stop c =
     let none = c.in_err-stop.ensures in
     malformed StopWord c.args.word.now _ _ _ _ c.from_residual-in_err-stop.ensures.1 none.ok_part none.value
     (no_stop _ _ c.split_once.ensures.cases _ c.in_ok-before.ensures.ok_part (sym c.decimal-2.ensures ∙ none.ok_part))
-
-pub returns : goal.returns
-returns c = stop_word _ _ c.split_once.ensures.cases _ c.in_ok-before.ensures.ok_part _ _ (sym c.decimal.ensures ∙ c.in_ok-tour.ensures.ok_part) (sym c.decimal-2.ensures ∙ c.in_ok-stop.ensures.ok_part)
