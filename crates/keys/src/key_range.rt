@@ -7,7 +7,7 @@ use crate::key_kind::KeyKind;
 use std::cmp::{max_by, min_by};
 
 /// The keys from `min` to `max`, both included.
-#[derive(Clone, Copy)]
+#[derive(Clone, Copy, Default)]
 pub struct KeyRange<K> {
     pub min: K,
     pub max: K,

@@ -8,7 +8,7 @@ use crate::key_kind::KeyKind;
 use std::cmp::Ordering;
 
 /// A tour number, then a stop number. The derived order goes by the fields as they stand.
-#[derive(Clone, Copy, PartialEq, Eq, PartialOrd, Ord)]
+#[derive(Clone, Copy, Default, PartialEq, Eq, PartialOrd, Ord)]
 pub struct StopKey {
     pub tour: u32,
     pub stop: u32,

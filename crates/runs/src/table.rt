@@ -6,7 +6,7 @@ use keys::key_kind::KeyKind;
 use keys::key_range::KeyRange;
 
 /// The record of a standing table.
-#[derive(Clone, Copy)]
+#[derive(Clone, Copy, Default)]
 pub struct Table<K> {
     pub number: u64,
     /// 0 to 6.

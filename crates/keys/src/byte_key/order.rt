@@ -1,5 +1,5 @@
 //! How a byte key is made, and the order of byte keys.
-ghost use Rattle.std.specs.Prelude.{◌≡◌, ◌≤◌, length, if◌then◌else◌, Ok, Err, nat_lt};
+ghost use Rattle.std.specs.Prelude.{◌≡◌, ◌≤◌, [], length, if◌then◌else◌, Ok, Err, nat_lt};
 ghost use Rattle.std.specs.Cmp.Lexicographic.{nat_list_cmp_total};
 ghost use Rattle.refusals.specs.declared.refusal.Refusal.TheVariants.{KeyTooLong};
 ghost use Rattle.keys.specs.ByteKey.{byte_ranks};
@@ -32,6 +32,18 @@ impl ByteKey {
         ensures few { length result.now ≤ 32 }
     {
         &self.bytes[0..self.len]
+    }
+}
+
+impl Default for ByteKey {
+    ghost is_default = { λ key. key ≡ [] };
+
+    /// The key of no bytes.
+    fn default() -> ByteKey {
+        ByteKey {
+            bytes: [0; LONGEST_KEY],
+            len: 0,
+        }
     }
 }
 
