@@ -2,7 +2,6 @@ pub mod Alike
 pub mod Answered
 pub mod FirstLevels
 pub mod Kept
-pub mod Layouts
 pub mod Overlapped
 pub mod Picks
 pub mod Scored

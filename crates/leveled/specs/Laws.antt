@@ -236,7 +236,7 @@ module _ {K : Type 0} {cmp : K → K → Ordering} (laws : Laws cmp) {room stand
       (λ i. tt)
 
 pub leveled_lawful : {K : Type 0} {cmp : K → K → Ordering} (laws : Laws cmp) (s : Settings) → Law cmp (λ ts hs. leveled cmp s ts hs)
-leveled_lawful laws s room standing blobs ts hs sound = all_lawful laws sound s hs
+leveled_lawful laws s room blobs ts hs sound = all_lawful laws sound s hs
 
 -- ---- each choice says what it names
 module _ {K : Type 0} (cmp : K → K → Ordering) (s : Settings) {ts : List (Table K)} (hs : List ℕ) (d : Pairs Differ ts) where

@@ -1,5 +1,4 @@
 pub mod Holding
-pub mod Layouts
 pub mod Leveled
 pub mod Promise
 pub mod Survey

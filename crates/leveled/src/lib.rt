@@ -1,7 +1,6 @@
 //! Leveled: when a level has too much, parts of it are merged into the next.
 #![tactic(auto)]
 
-pub mod examples;
 pub mod first_level;
 pub mod holding;
 pub mod merges;

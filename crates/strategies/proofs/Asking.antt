@@ -16,12 +16,12 @@ use Rattle.strategies.specs.Answer.{Chosen, Answer, nothing, chooses, declines, 
 use Rattle.strategies.specs.Question.{count_in, proposed, ids_after}
 
 -- ---- from what was returned and written
-count_is : (k : Kind) (c : Chosen) → count_in (as_choice k c) ≡ length c.numbers
+pub count_is : (k : Kind) (c : Chosen) → count_in (as_choice k c) ≡ length c.numbers
 count_is Move c = refl
 count_is Merge c = refl
 count_is Drop c = refl
 
-laid_front : (ns s : List ℕ) → take (length ns) (laid ns s) ≡ ns
+pub laid_front : (ns s : List ℕ) → take (length ns) (laid ns s) ≡ ns
 laid_front ns s = take_at ns (drop (length ns) s) (length ns) refl
 
 module _ (choice : Choice) where

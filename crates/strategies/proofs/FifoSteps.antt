@@ -24,7 +24,7 @@ some_is p (x ∷ xs) =
 place_is : {X : Type 0} (p : X → Bool) (xs : List X) → position_or_len p xs ≡ place_of p xs
 place_is p xs = sym (is_position_or_len (place_of p) p refl (λ x xs. ap (λ n. cond (p x) 0 n) (let one : suc (place_of p xs) ≡ 1 + place_of p xs = omega arith in one)) xs)
 
-inside_is : {X : Type 0} (p : X → Bool) (xs : List X) → ltb (place_of p xs) (length xs) ≡ list_any p xs
+pub inside_is : {X : Type 0} (p : X → Bool) (xs : List X) → ltb (place_of p xs) (length xs) ≡ list_any p xs
 inside_is p [] = refl
 inside_is p (x ∷ xs) =
     elim (p x) as (λ b. ltb (cond b 0 (suc (place_of p xs))) (suc (length xs)) ≡ (b || list_any p xs)) [
@@ -36,11 +36,11 @@ pub position_is : {X : Type 0} (p : X → Bool) (xs : List X) → position p xs 
 position_is p xs = ap (λ n. cond (ltb n (length xs)) (Some n) None) (place_is p xs) ∙ ap (λ b. cond b (Some (place_of p xs)) None) (inside_is p xs)
 
 -- what an answer with a place says of the test
-found : (b : Bool) (m n : ℕ) → Some m ≡ cond b (Some n) None → (b ≡ true) × (m ≡ n)
+pub found : (b : Bool) (m n : ℕ) → Some m ≡ cond b (Some n) None → (b ≡ true) × (m ≡ n)
 found true m n e = (refl, cc)
 found false m n e = absurd (let z : ◌≡◌ {A = ℕ} 0 1 = cc in omega arith)
 
-unfound : (b : Bool) (n : ℕ) → None ≡ cond b (Some n) None → b ≡ false
+pub unfound : (b : Bool) (n : ℕ) → None ≡ cond b (Some n) None → b ≡ false
 unfound true n e = absurd (let z : ◌≡◌ {A = ℕ} 0 1 = cc in omega arith)
 unfound false n e = refl
 

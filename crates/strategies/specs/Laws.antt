@@ -42,15 +42,15 @@ module _ {K : Type 0} (cmp : K → K → Ordering) where
           p = goes ttl clock limit (left_over ttl clock blobs ts) ts
 
   pub major_lawful : (target : ℕ) → Law cmp (major target)
-  major_lawful target room standing blobs ts hs s =
+  major_lawful target room blobs ts hs s =
       major_so (LawfulAnswer cmp ts) tt target ts hs
       (naming_lawful cmp s.ordered.numbers Merge 6 6 target (λ t. true) (λ g. (omega arith, omega arith)) (λ g u m e x. absurd (true≢false x)) (λ e. merge_moves _ e))
 
   pub drop_range_lawful : (bounds : OwnedBounds K) → Law cmp (drop_range cmp bounds)
-  drop_range_lawful bounds room standing blobs ts hs s = drop_range_so (LawfulAnswer cmp ts) tt ts (drop_lawful cmp s.ordered.numbers) bounds hs
+  drop_range_lawful bounds room blobs ts hs s = drop_range_so (LawfulAnswer cmp ts) tt ts (drop_lawful cmp s.ordered.numbers) bounds hs
 
   pub fifo_lawful : (limit ttl blob_total clock : ℕ) → Law cmp (fifo limit ttl blob_total clock)
-  fifo_lawful limit ttl blob_total clock room standing blobs ts hs s = fifo_so (LawfulAnswer cmp ts) tt ts (drop_lawful cmp s.ordered.numbers) (λ d. tt) limit ttl blob_total clock hs
+  fifo_lawful limit ttl blob_total clock room blobs ts hs s = fifo_so (LawfulAnswer cmp ts) tt ts (drop_lawful cmp s.ordered.numbers) (λ d. tt) limit ttl blob_total clock hs
 
   -- ---- numbers in sheet order, and their bytes
   module _ {room standing blobs : ℕ} {ts : List (Table K)} (s : Sound cmp room standing blobs ts) where

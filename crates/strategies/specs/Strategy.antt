@@ -1,5 +1,5 @@
 -- The law of strategies.
-use Rattle.std.specs.Prelude.{◌≡◌, ℕ, ◌≤◌, Bool, false, List, Some, None, filter, Option, ◌≢◌}
+use Rattle.std.specs.Prelude.{◌≡◌, ℕ, ◌≤◌, Bool, false, List, length, Some, None, filter, Option, ◌≢◌}
 use Rattle.std.specs.declared.cmp.Ordering.{Ordering}
 use Rattle.keys.specs.declared.key_range.KeyRange.{KeyRange}
 use Rattle.keys.specs.KeyRange.{meets}
@@ -57,4 +57,4 @@ module _ {K : Type 0} (cmp : K → K → Ordering) where
 
   -- the law: on a sound sheet and any hidden numbers
   abbrev pub Law : (List (Table K) → List ℕ → Answer) → Type 0
-  Law g = (room standing blobs : ℕ) (ts : List (Table K)) (hs : List ℕ) → Sound cmp room standing blobs ts → LawfulAnswer ts (g ts hs)
+  Law g = (room blobs : ℕ) (ts : List (Table K)) (hs : List ℕ) → Sound cmp room (length ts) blobs ts → LawfulAnswer ts (g ts hs)

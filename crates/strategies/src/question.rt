@@ -2,6 +2,7 @@
 ghost use Rattle.std.specs.Prelude.{◌≡◌, ◌≤◌, length, take, if◌then◌else◌, Ok, Err, nat_le};
 ghost use Rattle.refusals.specs.declared.refusal.Refusal.TheVariants.{IdsTooShort};
 ghost use Rattle.sheets.specs.Edits.{laid};
+ghost use Rattle.strategies.specs.Answer.{asked, noted};
 ghost use Rattle.strategies.specs.Question.{count_in, proposed, ids_after};
 
 use crate::choice::Choice;
@@ -43,14 +44,27 @@ pub fn propose<K: KeyKind, S: CompactionStrategy<K>>(
     if !is_sound(sheet, standing, blob_total) {
         return Err(Refusal::NotSound);
     }
-    let mut room = [0u64; MOST_TABLES];
     let snapshot = Snapshot {
         tables: &sheet[0..standing],
         hidden_set,
         blob_total,
         clock,
     };
-    let choice = S::choose(settings, &snapshot, &mut room)?;
+    ask::<K, S>(settings, &snapshot, ids)
+}
+
+/// Asks a strategy about a snapshot: what it chooses, and the numbers of the tables in sheet order in the front of the id sheet, whose rest keeps its content.
+/// Refused, the id sheet keeps all of it: first as the strategy refuses, then where the id sheet is too short.
+pub fn ask<K: KeyKind, S: CompactionStrategy<K>>(
+    settings: &S::Settings,
+    snapshot: &Snapshot<'_, K>,
+    ids: &mut [u64],
+) -> Result<Choice, Refusal>
+    ensures answer { result ≡ asked (S.CompactionStrategy.chooses settings.now snapshot.now.tables.now snapshot.now.hidden_set.now snapshot.now.blob_total snapshot.now.clock) (length ids.old) }
+    ensures ids { ids.new ≡ noted (S.CompactionStrategy.chooses settings.now snapshot.now.tables.now snapshot.now.hidden_set.now snapshot.now.blob_total snapshot.now.clock) ids.old }
+{
+    let mut room = [0u64; MOST_TABLES];
+    let choice = S::choose(settings, snapshot, &mut room)?;
     hand_out(choice, &room, ids)
 }
 
