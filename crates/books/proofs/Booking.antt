@@ -1,5 +1,5 @@
 -- A lawful booking keeps the book sound.
-use Rattle.std.proofs.Common.{◌≡◌, ℕ, ◌<◌, ◌≤◌, true, false, cond, ◌⊎◌, List, [], ◌∷◌, ◌++◌, length, Ordering, sym, refl, ap, ◌∙◌, inl, inr}
+use Rattle.std.proofs.Common.{◌≡◌, ℕ, ◌<◌, ◌≤◌, true, false, cond, ◌⊎◌, List, [], ◌∷◌, ◌++◌, length, Ordering, sym, refl, ap, ◌∙◌, subst, inl, inr}
 use Rattle.std.specs.List.{list_any}
 use Rattle.std.proofs.lemmas.Bool.{true≢false, both_ways, and_cases, or_cases, or_left, or_right}
 use Rattle.keys.specs.KeyKind.{Laws}
@@ -9,10 +9,11 @@ use Rattle.sheets.specs.Members.{In, Every, Pairs, none, more}
 use Rattle.sheets.specs.Tables.{memb, named}
 use Rattle.sheets.proofs.Each.{none_in, in_cases, none_some, memb_in, in_memb}
 use Rattle.sheets.proofs.Hiding.{memb_hiding}
-use Rattle.strategies.specs.declared.choice.Kind.TheVariants.{Move}
+use Rattle.strategies.specs.declared.choice.Kind.{Kind}
+use Rattle.strategies.specs.declared.choice.Kind.TheVariants.{Move, Merge, Drop}
 use Rattle.strategies.specs.Answer.{Chosen}
 use Rattle.strategies.specs.Strategy.{Goes, Stands, Lawful}
-use Rattle.books.specs.Book.{job_of, taken}
+use Rattle.books.specs.Book.{level_for, job_of, taken}
 use Rattle.books.specs.Booked.{Disjoint, Clear, Lanes, UnmetHeld, Booked, crosses}
 use Rattle.books.specs.Job.{Running}
 use Rattle.books.proofs.Books.{disjoint_turn, lanes_turn}
@@ -50,6 +51,12 @@ untaken ts hs c stands free n m =
       | inr e ↦ ap (λ k. memb k hs) (sym w.2) ∙ e
     ]
 
+-- a move or a merge goes to its destination
+level_is : (k : Kind) (level : ℕ) → Goes k → level_for k level ≡ level
+level_is Move level g = refl
+level_is Merge level g = refl
+level_is Drop level g = absurd (g refl)
+
 module _ {K : Type 0} {cmp : K → K → Ordering} (laws : Laws cmp) {ts : List (Table K)} {hidden : List ℕ} {jobs jobs' : List Running} {c : Chosen}
     (b : Booked cmp ts hidden jobs) (o : Out (job_of c) jobs' jobs) (law : Lawful cmp ts c) (full : 0 < length c.numbers)
     (free : list_any (taken hidden c) ts ≡ false) (clear : list_any (crosses cmp ts (job_of c)) jobs ≡ false) (few : length jobs' ≤ 8) (fits : length (hiding hidden c.numbers) ≤ 256) where
@@ -69,8 +76,8 @@ module _ {K : Type 0} {cmp : K → K → Ordering} (laws : Laws cmp) {ts : List 
         hides = out_each (λ k. Every (λ n. memb n all ≡ true) k.numbers) o (λ n m. hid_now n hidden c.numbers (in_memb n c.numbers m)) (λ k i n m. hid_before n hidden c.numbers (b.hides k i n m));
         disjoint = pairs_out Disjoint disjoint_turn o b.disjoint (λ k i n x y. both_ways _ (unhidden n x) (b.hides k i n (memb_in n k.numbers y)));
         filled = out_each (λ k. 0 < length k.numbers) o full b.filled;
-        destined = out_each (λ k. Goes k.kind → (1 ≤ k.destination) × (k.destination ≤ 6)) o law.destined b.destined;
-        clear = out_each (λ k. Goes k.kind → Clear cmp ts k) o law.others b.clear;
+        destined = out_each (λ k. Goes k.kind → (1 ≤ k.destination) × (k.destination ≤ 6)) o (λ g. subst (λ n. (1 ≤ n) × (n ≤ 6)) (sym (level_is c.kind c.destination g)) (law.destined g)) b.destined;
+        clear = out_each (λ k. Goes k.kind → Clear cmp ts k) o (λ g u m e. law.others g u m (e ∙ level_is c.kind c.destination g)) b.clear;
         lanes = pairs_out (Lanes cmp ts) (lanes_turn laws ts) o b.lanes (λ k i. lanes_test cmp ts (job_of c) k (none_some (crosses cmp ts (job_of c)) jobs clear k i));
         moves = out_each (λ k. k.kind ≡ Move → UnmetHeld cmp ts k) o law.apart b.moves;
       }

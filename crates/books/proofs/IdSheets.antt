@@ -9,21 +9,22 @@ use Rattle.strategies.specs.declared.choice.Choice.{Choice}
 use Rattle.strategies.specs.declared.choice.Kind.{Kind}
 use Rattle.strategies.specs.declared.choice.Kind.TheVariants.{Move, Merge, Drop}
 use Rattle.strategies.specs.Answer.{Chosen, Answer, nothing, chooses, declines, as_choice, asked, noted}
+use Rattle.strategies.specs.Question.{count_in}
 use Rattle.books.specs.Book.{Question, Booking, Left, job_of, second, look_on, taken, book_choice, book_answer}
 use Rattle.books.specs.Booked.{crosses, state_ok}
 use Rattle.books.specs.Calls.{propose, look_ahead, book}
-use Rattle.books.specs.Deed.{count_named, names}
+use Rattle.books.specs.Deed.{names}
 use Rattle.books.specs.Job.{running}
 use Rattle.books.specs.State.{State}
 
 -- ---- the numbers that a choice names
-count_is : (k : Kind) (c : Chosen) → length c.numbers ≡ count_named (as_choice k c)
+count_is : (k : Kind) (c : Chosen) → length c.numbers ≡ count_in (as_choice k c)
 count_is Move c = refl
 count_is Merge c = refl
 count_is Drop c = refl
 
-pub front_is : (k : Kind) (c : Chosen) (ids : List ℕ) → take (count_named (as_choice k c)) (laid c.numbers ids) ≡ c.numbers
-front_is k c ids = take_at c.numbers (drop (length c.numbers) ids) (count_named (as_choice k c)) (count_is k c)
+pub front_is : (k : Kind) (c : Chosen) (ids : List ℕ) → take (count_in (as_choice k c)) (laid c.numbers ids) ≡ c.numbers
+front_is k c ids = take_at c.numbers (drop (length c.numbers) ids) (count_in (as_choice k c)) (count_is k c)
 
 -- the numbers of an answer that finds so many places
 abbrev pub listed : Answer → ℕ → List ℕ

@@ -2,6 +2,7 @@ pub mod AlikeBook
 pub mod AlikeCalls
 pub mod AlikeEdits
 pub mod BeforeEdits
+pub mod BlobTotals
 pub mod Booking
 pub mod Books
 pub mod BookTests

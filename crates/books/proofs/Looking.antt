@@ -5,6 +5,7 @@ use Rattle.runs.specs.declared.table.Table.{Table}
 use Rattle.sheets.specs.HiddenSet.{hiding}
 use Rattle.sheets.specs.Level.{numbers_of}
 use Rattle.sheets.specs.Members.{In, here, later, Every, Pairs, none, more}
+use Rattle.sheets.specs.Sound.{Sound}
 use Rattle.sheets.proofs.Each.{memb_in}
 use Rattle.strategies.specs.Answer.{Chosen, Answer, nothing, chooses, declines}
 use Rattle.strategies.specs.Strategy.{Stands, Lawful, LawfulAnswer}
@@ -35,6 +36,10 @@ stand_few ts {ns} once stands =
     omega (arith, different_few once (λ n m. memb_in n (numbers_of ts) (stands_to ts n (stands n m))), length-map ts (λ t. t.number))
 
 module _ {K : Type 0} {cmp : K → K → Ordering} (st : State K) (s : SoundState cmp st) where
+  -- the sheet is sound by the number of tables that it has
+  pub sheet_whole : Sound cmp st.room (length st.tables) st.blobs st.tables
+  sheet_whole = subst (λ n. Sound cmp st.room n st.blobs st.tables) s.whole s.sheet
+
   -- what is hidden together with the tables of a lawful choice
   pub hiding_few : (c : Chosen) → Lawful cmp st.tables c → length (hiding st.hidden c.numbers) ≤ 1024
   hiding_few c law =
@@ -47,4 +52,4 @@ module _ {K : Type 0} {cmp : K → K → Ordering} (st : State K) (s : SoundStat
   ahead_few (declines d) law = omega (arith, s.book.few.0)
 
 pub looks_within : {K : Type 0} (cmp : K → K → Ordering) → LooksWithin cmp
-looks_within cmp g st law s = ahead_few st s (g st.tables st.hidden) (law st.room st.standing st.blobs st.tables st.hidden s.sheet)
+looks_within cmp g st law s = ahead_few st s (g st.tables st.hidden) (law st.room st.blobs st.tables st.hidden (sheet_whole st s))

@@ -25,6 +25,7 @@ use Rattle.books.specs.Land.{has_room, fresh_ok, landed}
 use Rattle.books.specs.State.{State}
 use Rattle.books.proofs.Booking.{booking_keeps}
 use Rattle.books.proofs.Books.{take_out}
+use Rattle.books.proofs.Looking.{sheet_whole}
 use Rattle.books.proofs.ClosedJobs.{room_parts, closed_booked, closed_sound}
 use Rattle.books.proofs.Landing.{landed_sound, landed_booked}
 use Rattle.books.proofs.Outputs.{good_fresh}
@@ -167,4 +168,4 @@ module _ {K : Type 0} {cmp : K → K → Ordering} (laws : Laws cmp) (st : State
   book_at (declines d) law ids = (s, unlike (refusal_of d) (declined_fine d))
 
   pub book_keeps : (g : Question K) → Law cmp g → (ids : List ℕ) → Leaves (B.book cmp g st ids)
-  book_keeps g law ids = book_at (g st.tables st.hidden) (law st.room st.standing st.blobs st.tables st.hidden s.sheet) ids
+  book_keeps g law ids = book_at (g st.tables st.hidden) (law st.room st.blobs st.tables st.hidden (sheet_whole st s)) ids

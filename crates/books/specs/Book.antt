@@ -9,6 +9,8 @@ use Rattle.sheets.specs.Edits.{laid}
 use Rattle.sheets.specs.HiddenSet.{hiding}
 use Rattle.sheets.specs.Tables.{named}
 use Rattle.strategies.specs.declared.choice.Choice.{Choice}
+use Rattle.strategies.specs.declared.choice.Kind.{Kind}
+use Rattle.strategies.specs.declared.choice.Kind.TheVariants.{Move, Merge, Drop}
 use Rattle.strategies.specs.Answer.{Chosen, Answer, nothing, chooses, declines, refusal_of, as_choice, asked, noted}
 use Rattle.strategies.specs.Fifo.{place_of}
 use Rattle.books.specs.Booked.{crosses}
@@ -30,9 +32,15 @@ pub record Left (K R : Type 0) : Type 0 where
   pub ids : List ℕ
   pub result : Result R Refusal
 
+-- the level that takes the tables of a job of a kind: 0 for a drop
+abbrev pub level_for : Kind → ℕ → ℕ
+level_for Move level = level
+level_for Merge level = level
+level_for Drop level = 0
+
 -- the job that a choice starts
 abbrev pub job_of : Chosen → Running
-job_of c = record { kind = c.kind; destination = c.destination; numbers = c.numbers }
+job_of c = record { kind = c.kind; destination = level_for c.kind c.destination; numbers = c.numbers }
 
 -- the numbers to be hidden for a look ahead
 abbrev pub ahead_of : List ℕ → Answer → List ℕ

@@ -5,7 +5,7 @@ use Rattle.std.specs.Result.{result_err}
 use Rattle.refusals.specs.declared.refusal.Refusal.{Refusal}
 use Rattle.runs.specs.declared.fresh.Fresh.{Fresh}
 use Rattle.strategies.specs.declared.choice.Choice.{Choice}
-use Rattle.strategies.specs.declared.choice.Choice.TheVariants.{DoNothing, Move, Merge, Drop}
+use Rattle.strategies.specs.Question.{count_in}
 use Rattle.strategies.specs.Strategy.{Law}
 use Rattle.books.specs.Book.{Question, Booking, Left}
 use Rattle.books.specs.Calls.{land, close, give_up, propose, look_ahead, book}
@@ -32,16 +32,15 @@ refusal_in (ended r) = result_err r
 refusal_in (chosen r numbers) = result_err r
 refusal_in (booked r numbers) = result_err r
 
--- how many tables a choice names
-abbrev pub count_named : Choice → ℕ
-count_named DoNothing = 0
-count_named (Move input) = input.tables.count
-count_named (Merge input) = input.tables.count
-count_named (Drop tables) = tables.count
+-- the numbers that a reply names
+abbrev pub numbers_in : Reply → List ℕ
+numbers_in (ended r) = []
+numbers_in (chosen r numbers) = numbers
+numbers_in (booked r numbers) = numbers
 
 -- the numbers that a returned choice names: as many of the id sheet's front
 abbrev pub names : {R : Type 0} → (R → Choice) → Result R Refusal → List ℕ → List ℕ
-names choice_of (Ok r) ids = take (count_named (choice_of r)) ids
+names choice_of (Ok r) ids = take (count_in (choice_of r)) ids
 names choice_of (Err e) ids = []
 
 module _ {K : Type 0} where
