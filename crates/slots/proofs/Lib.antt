@@ -1,0 +1,5 @@
+pub mod Admitting
+pub mod Apart
+pub mod Holding
+pub mod Running
+pub mod Tests
