@@ -1,4 +1,9 @@
-pub mod Apart
-pub mod Holding
-pub mod Running
-pub mod Tests
+pub mod Ahead
+pub mod Asked
+pub mod Booked
+pub mod Ended
+pub mod Options
+pub mod Performed
+pub mod Places
+pub mod Standing
+pub mod Tested

@@ -1,5 +1,5 @@
-pub mod Held
-pub mod Job
+pub mod Booking
+pub mod Call
+pub mod Ending
 pub mod Open
-pub mod Sound
 pub mod View

@@ -15,9 +15,13 @@ opened sheet (Ok book) = Ok (state book sheet)
 opened sheet (Err e) = Err e
 
 module _ {K : Type 0} (cmp : K → K → Ordering) where
-  -- a book on a sound sheet, of which so many tables stand: nothing is hidden, and no job runs
-  abbrev pub open_book : List (Table K) → ℕ → ℕ → Result (State K) Refusal
-  open_book sheet count blobs =
-      cond (sheet_ok cmp (length sheet) count blobs (take count sheet))
-      (Ok (record { room = length sheet; standing = count; blobs = blobs; tables = take count sheet; hidden = []; slots = replicate 8 None }))
+  -- a book on a sound sheet of so much room, in which so many tables stand: nothing is hidden, and no job runs
+  abbrev pub open_on : ℕ → ℕ → ℕ → List (Table K) → Result (State K) Refusal
+  open_on room count blobs ts =
+      cond (sheet_ok cmp room count blobs ts)
+      (Ok (record { room = room; standing = count; blobs = blobs; tables = ts; hidden = []; slots = replicate 8 None }))
       (Err NotSound)
+
+  -- the same of a sheet, whose first tables stand
+  abbrev pub open_book : List (Table K) → ℕ → ℕ → Result (State K) Refusal
+  open_book sheet count blobs = open_on (length sheet) count blobs (take count sheet)

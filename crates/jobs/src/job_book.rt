@@ -1,24 +1,24 @@
 //! The job book and the calls on it.
-ghost use Rattle.std.specs.Prelude.{◌≡◌};
-ghost use Rattle.books.specs.Booked.{state_ok};
+ghost use Rattle.std.specs.Prelude.{◌≡◌, take, Decides};
+ghost use Rattle.books.specs.Booked.{SoundState, state_ok};
 ghost use Rattle.jobs.specs.Open.{opened, open_book};
 ghost use Rattle.jobs.specs.View.{state};
 
-use crate::job::Job;
-use crate::sound::{BookTest, MOST_JOBS};
 use keys::key_kind::KeyKind;
 use refusals::refusal::Refusal;
 use runs::table::Table;
 use sheets::hidden_set::HiddenSet;
 use sheets::sound::is_sound;
+use slots::job::Job;
+use slots::sound::{BookTest, MOST_JOBS};
 
 /// Which tables are being compacted, by which jobs. The tables themselves stand in the caller's sheet.
 #[derive(Drop)]
 pub struct JobBook {
-    standing: usize,
-    blob_total: u64,
-    hidden: HiddenSet,
-    jobs: [Job; MOST_JOBS],
+    pub(crate) standing: usize,
+    pub(crate) blob_total: u64,
+    pub(crate) hidden: HiddenSet,
+    pub(crate) jobs: [Job; MOST_JOBS],
 }
 
 impl JobBook {
@@ -41,9 +41,31 @@ impl JobBook {
         })
     }
 
+    /// The tables that stand in the sheet.
+    pub fn tables<'a, K>(&self, sheet: &'a [Table<K>]) -> &'a [Table<K>]
+        ensures { result.now ≡ take self.now.standing sheet.now }
+    {
+        &sheet[..self.standing.min(sheet.len())]
+    }
+
+    /// The numbers of the hidden tables, in the order in which they were hidden.
+    pub fn hidden(&self) -> &[u64]
+        ensures { result.now ≡ self.now.hidden }
+    {
+        self.hidden.as_slice()
+    }
+
+    /// The slots for jobs.
+    pub fn jobs(&self) -> &[Job]
+        ensures { result.now ≡ self.now.jobs }
+    {
+        &self.jobs
+    }
+
     /// Whether book and sheet are sound.
     pub fn is_sound<K: KeyKind>(&self, sheet: &[Table<K>]) -> bool
-        ensures { result ≡ state_ok K.ranks (state self.now sheet.now) }
+        ensures test { result ≡ state_ok K.ranks (state self.now sheet.now) }
+        ensures words { Decides result (SoundState K.ranks (state self.now sheet.now)) }
     {
         is_sound(sheet, self.standing, self.blob_total)
             && BookTest {

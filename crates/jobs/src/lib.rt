@@ -1,8 +1,11 @@
 //! The job book: which tables are being compacted, by which jobs, and the calls on it.
 #![tactic(auto)]
 
-mod held;
-pub mod job;
+pub mod asking;
+pub mod booking;
+pub mod call;
+pub mod ending;
 pub mod job_book;
-pub mod sound;
+pub mod landing;
+pub mod look_ahead;
 pub mod ticket;
