@@ -1,0 +1,4 @@
+pub mod Alike
+pub mod Lawful
+pub mod Picks
+pub mod Runs

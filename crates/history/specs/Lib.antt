@@ -1,0 +1,3 @@
+pub mod Alike
+pub mod Picks
+pub mod Replay
