@@ -1,0 +1,5 @@
+use Rattle.layouts.proofs.Layouts.{layouts}
+use Rattle.layouts.proofs.worked_layouts.Goals as goal
+
+pub returns : goal.returns
+returns c = layouts
