@@ -1,7 +1,8 @@
 //! The lines of a script.
-ghost use Rattle.std.specs.Prelude.{◌≡◌, IfOk};
 ghost use Rattle.texts.specs.declared.field.Field.TheVariants.{Places};
-ghost use Rattle.scripts.specs.Command.{name_of, key_name_of, word_of, ReadsName, ReadsLine, SaysNumber, SaysQuestion, SaysBody, SaysFresh, SaysTable, SaysArguments};
+ghost use Rattle.texts.specs.Reading.{Reads, Plain};
+ghost use Rattle.texts.specs.Words.{words_of};
+ghost use Rattle.scripts.specs.Command.{name_of, key_name_of, ReadsName, SaysLine, SaysNumber, SaysQuestion, SaysBody, SaysFresh, SaysTable, SaysCall};
 
 use crate::strategy::read_strategy;
 use keys::key_range::KeyRange;
@@ -95,7 +96,7 @@ pub enum Line<'a> {
 impl<'a> Line<'a> {
     /// Reads the first word of a line.
     pub fn read(text: &'a str) -> Result<Line<'a>, Fault>
-        ensures { IfOk result (ReadsLine text.now) }
+        ensures { Reads (Plain (SaysLine (words_of text.now))) result }
     {
         let mut words = Words::new(text);
         match words.next() {
@@ -144,8 +145,7 @@ pub enum Command<K> {
 impl<K: KeyText> Command<K> {
     /// Reads what stands behind the first word, to the end of the line.
     pub fn read(heap: Global, word: Word, words: &mut Words<'_>) -> Result<Command<K>, Fault>
-        ensures word { IfOk result (λ c. word_of c ≡ word) }
-        ensures arguments { IfOk result (SaysArguments K.KeyText.says words.old) }
+        ensures { Reads (SaysCall K.KeyText.says word words.old) result }
     {
         match word {
             Word::Sheet => Ok(Command::Sheet(read_places(words)?)),
@@ -169,7 +169,7 @@ impl<K: KeyText> Command<K> {
 
 // The one number of a line.
 fn last_number(words: &mut Words<'_>, field: Field) -> Result<u64, Fault>
-    ensures { IfOk result (SaysNumber field words.old) }
+    ensures { Reads (Plain (SaysNumber field words.old)) result }
 {
     let n = words.number(field)?;
     words.end()?;
@@ -178,14 +178,14 @@ fn last_number(words: &mut Words<'_>, field: Field) -> Result<u64, Fault>
 
 // How many places a sheet has.
 fn read_places(words: &mut Words<'_>) -> Result<usize, Fault>
-    ensures { IfOk result (SaysNumber Places words.old) }
+    ensures { Reads (Plain (SaysNumber Places words.old)) result }
 {
     Ok(last_number(words, Field::Places)? as usize)
 }
 
 // A clock, then a strategy.
 fn read_question<K: KeyText>(heap: Global, words: &mut Words<'_>) -> Result<Question<K>, Fault>
-    ensures { IfOk result (SaysQuestion words.old) }
+    ensures { Reads (SaysQuestion K.KeyText.says words.old) result }
 {
     let clock = words.number(Field::Clock)?;
     let settings = read_strategy(heap, words)?;
@@ -194,7 +194,7 @@ fn read_question<K: KeyText>(heap: Global, words: &mut Words<'_>) -> Result<Ques
 
 // A table with no level and no run.
 fn read_fresh<K: KeyText>(heap: Global, words: &mut Words<'_>) -> Result<Fresh<K>, Fault>
-    ensures { IfOk result (SaysFresh K.KeyText.says words.old) }
+    ensures { Reads (SaysFresh K.KeyText.says words.old) result }
 {
     let number = words.number(Field::Number)?;
     read_body(heap, number, words)
@@ -202,7 +202,7 @@ fn read_fresh<K: KeyText>(heap: Global, words: &mut Words<'_>) -> Result<Fresh<K
 
 // A standing table: level and run stand behind its number.
 fn read_table<K: KeyText>(heap: Global, words: &mut Words<'_>) -> Result<Table<K>, Fault>
-    ensures { IfOk result (SaysTable K.KeyText.says words.old) }
+    ensures { Reads (SaysTable K.KeyText.says words.old) result }
 {
     let number = words.number(Field::Number)?;
     let level = words.number(Field::Level)? as u8;
@@ -217,8 +217,7 @@ fn read_body<K: KeyText>(
     number: u64,
     words: &mut Words<'_>,
 ) -> Result<Fresh<K>, Fault>
-    ensures number { IfOk result (λ f. f.number ≡ number) }
-    ensures body { IfOk result (λ f. SaysBody K.KeyText.says words.old f.range f.size f.created f.linked) }
+    ensures { Reads (SaysBody K.KeyText.says number words.old) result }
 {
     let min = K::read_key(heap, words.expect(Expected::Key)?)?;
     let max = K::read_key(heap, words.expect(Expected::Key)?)?;

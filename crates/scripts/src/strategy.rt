@@ -1,10 +1,11 @@
 //! A strategy and its settings, as a line says them.
-ghost use Rattle.std.specs.Prelude.{◌≡◌, ◌≢◌, ℕ, ◌≤◌, List, ◌++◌, length, codes, from_bits, IfOk};
+ghost use Rattle.std.specs.Prelude.{◌≡◌, ◌≢◌, ℕ, ◌≤◌, List, ◌++◌, length, codes, from_bits, Float, MatchOption};
 ghost use Rattle.std.specs.Float.{binary32};
 ghost use Rattle.std.specs.Float.Parse.{parse_float};
 ghost use Rattle.std.specs.Option.{SomeIff};
 ghost use Rattle.std.specs.Str.Parse.{IsNumeral, digits_value};
-ghost use Rattle.scripts.specs.Strategy.{SaysLeveled, SaysFifo, SaysMajor, SaysStrategy};
+ghost use Rattle.texts.specs.Reading.{Reading, Reads, Plain};
+ghost use Rattle.scripts.specs.Strategy.{RatioWord, SaysRatios, listed, SaysLeveled, SaysFifo, SaysMajor, BoundWord, SaysBounds, SaysStrategy};
 
 use keys::bounds::OwnedBounds;
 use levels::settings::Settings as LeveledSettings;
@@ -36,6 +37,7 @@ fn ratio_bits(digits: &str) -> Option<f32>
 pub fn ratio(word: &str) -> Option<f32>
     ensures bits { (digits : List ℕ) → word.now ≡ codes "0x" ++ digits → SomeIff result (IsNumeral 16 digits × (length digits ≤ 8)) (from_bits binary32 (digits_value 16 digits)) }
     ensures decimal { ((digits : List ℕ) → word.now ≢ codes "0x" ++ digits) → result ≡ parse_float binary32 word.now }
+    ensures says { MatchOption result ((x : Float) → RatioWord word.now x → ⊥) (RatioWord word.now) }
 {
     if let Some(digits) = word.strip_prefix("0x") {
         return ratio_bits(digits);
@@ -44,7 +46,9 @@ pub fn ratio(word: &str) -> Option<f32>
 }
 
 // Ratios to the end of the line.
-fn ratios(heap: Global, words: &mut Words<'_>) -> Result<Vec<f32>, Fault> {
+fn ratios(heap: Global, words: &mut Words<'_>) -> Result<Vec<f32>, Fault>
+    ensures { Reads (Plain (SaysRatios words.old)) (listed result) }
+{
     let mut ratios = Vec::new(heap);
     for word in words {
         ratios.push(ratio(word).ok_or(Fault::Malformed(Expected::Ratio))?)?;
@@ -53,7 +57,9 @@ fn ratios(heap: Global, words: &mut Words<'_>) -> Result<Vec<f32>, Fault> {
 }
 
 // A bound: `*`, or a key behind `[` where it is included and behind `(` where it is not.
-fn read_bound<K: KeyText>(heap: Global, word: &str) -> Result<Result<Bound<K>, Refusal>, Fault> {
+fn read_bound<K: KeyText>(heap: Global, word: &str) -> Result<Result<Bound<K>, Refusal>, Fault>
+    ensures { Reading (BoundWord K.KeyText.says) word.now result }
+{
     if word == "*" {
         return Ok(Ok(Bound::Unbounded));
     }
@@ -67,7 +73,9 @@ fn read_bound<K: KeyText>(heap: Global, word: &str) -> Result<Result<Bound<K>, R
 }
 
 // The two bounds of a range drop. A line that is malformed is malformed first, and only then refused.
-fn read_bounds<K: KeyText>(heap: Global, words: &mut Words<'_>) -> Result<OwnedBounds<K>, Fault> {
+fn read_bounds<K: KeyText>(heap: Global, words: &mut Words<'_>) -> Result<OwnedBounds<K>, Fault>
+    ensures { Reads (SaysBounds K.KeyText.says words.old) result }
+{
     let start = read_bound::<K>(heap, words.expect(Expected::Bound)?)?;
     let end = read_bound::<K>(heap, words.expect(Expected::Bound)?)?;
     words.end()?;
@@ -79,7 +87,7 @@ fn read_bounds<K: KeyText>(heap: Global, words: &mut Words<'_>) -> Result<OwnedB
 
 // A target and a threshold, then ratios.
 fn read_leveled(heap: Global, words: &mut Words<'_>) -> Result<LeveledSettings, Fault>
-    ensures { IfOk result (SaysLeveled words.old) }
+    ensures { Reads (Plain (SaysLeveled words.old)) result }
 {
     let target = words.number(Field::Target)?;
     let threshold = words.number(Field::Threshold)? as u32;
@@ -94,7 +102,7 @@ fn read_leveled(heap: Global, words: &mut Words<'_>) -> Result<LeveledSettings, 
 
 // A limit and a time to live.
 fn read_fifo(words: &mut Words<'_>) -> Result<FifoSettings, Fault>
-    ensures { IfOk result (SaysFifo words.old) }
+    ensures { Reads (Plain (SaysFifo words.old)) result }
 {
     let limit = words.number(Field::Limit)?;
     let ttl_seconds = words.number(Field::Ttl)?;
@@ -104,7 +112,7 @@ fn read_fifo(words: &mut Words<'_>) -> Result<FifoSettings, Fault>
 
 // A target.
 fn read_major(words: &mut Words<'_>) -> Result<MajorSettings, Fault>
-    ensures { IfOk result (SaysMajor words.old) }
+    ensures { Reads (Plain (SaysMajor words.old)) result }
 {
     let target_size = words.number(Field::Target)?;
     words.end()?;
@@ -113,7 +121,7 @@ fn read_major(words: &mut Words<'_>) -> Result<MajorSettings, Fault>
 
 /// The settings of the strategy that the rest of a line says. Whether they are within their limits is the strategy's to say.
 pub fn read_strategy<K: KeyText>(heap: Global, words: &mut Words<'_>) -> Result<Settings<K>, Fault>
-    ensures { IfOk result (SaysStrategy words.old) }
+    ensures { Reads (SaysStrategy K.KeyText.says words.old) result }
 {
     match words.expect(Expected::Strategy)? {
         "leveled" => Ok(Settings::Leveled(read_leveled(heap, words)?)),

@@ -2,4 +2,5 @@ mod Hexes
 mod Numbers
 mod Stops
 pub mod Options
-mod Readings
+pub mod Readings
+mod Cuts

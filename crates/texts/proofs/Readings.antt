@@ -6,9 +6,10 @@ use Rattle.refusals.specs.declared.refusal.Refusal.{Refusal}
 use Rattle.texts.specs.declared.fault.Fault.{Fault}
 use Rattle.texts.specs.declared.fault.Fault.TheVariants.{Malformed}
 use Rattle.texts.specs.declared.fault.Expected.{Expected}
-use Rattle.texts.specs.KeyText.{Reading}
+use Rattle.texts.specs.Reading.{Reading}
 
-missing : {X : Type 0} (o : Option X) (f : Fault) (x : Expected) → o ≡ None → Err f ≡ ok_or o (Malformed x) → f ≡ Malformed x
+-- what stands for a thing that is missing
+pub missing : {X : Type 0} (o : Option X) (f : Fault) (x : Expected) → o ≡ None → Err f ≡ ok_or o (Malformed x) → f ≡ Malformed x
 missing None f x none e = cc
 missing (Some y) f x none e = cc
 

@@ -4,18 +4,8 @@ use Rattle.refusals.specs.declared.refusal.Refusal.{Refusal}
 use Rattle.refusals.specs.declared.refusal.Refusal.TheVariants.{KeyTooLong}
 use Rattle.keys.specs.declared.byte_key.ByteKey.{ByteKey}
 use Rattle.keys.specs.declared.stop_key.StopKey.{StopKey}
-use Rattle.texts.specs.declared.fault.Fault.{Fault}
-use Rattle.texts.specs.declared.fault.Fault.TheVariants.{Malformed, Refused, NotBuilt, Memory}
 use Rattle.texts.specs.Hex.{bytes_of, hexed}
 use Rattle.texts.specs.Words.{decimal_of}
-
--- what came of reading the word w, where `says w r` is that w says r, a key or a refusal: a malformed word says neither
-abbrev pub Reading : {K : Type 0} → (List ℕ → Result K Refusal → Type 0) → List ℕ → Result (Result K Refusal) Fault → Type 0
-Reading says w (Ok r) = says w r
-Reading says w (Err (Malformed expected)) = (r : _) → says w r → ⊥
-Reading says w (Err (Refused refusal)) = ⊥
-Reading says w (Err NotBuilt) = ⊥
-Reading says w (Err Memory) = Unit {0}
 
 -- a tour and a stop in decimal digits, each below 2^32, with a colon between them
 pub record StopWord (w : List ℕ) (r : Result StopKey Refusal) : Type 0 where

@@ -1,4 +1,5 @@
 pub mod Field
 pub mod Hex
 pub mod KeyText
+pub mod Reading
 pub mod Words

@@ -42,8 +42,6 @@ pub enum Fault {
     Malformed(Expected),
     /// The line is well formed and is answered by a refusal.
     Refused(Refusal),
-    /// The word is known, and what it asks for is not built yet.
-    NotBuilt,
     /// There was no memory left.
     Memory,
 }
@@ -110,7 +108,6 @@ impl fmt::Display for Fault {
         match *self {
             Fault::Malformed(expected) => write!(f, "expected {expected}"),
             Fault::Refused(refusal) => write!(f, "refused {}", refusal.number()),
-            Fault::NotBuilt => f.write_str("this word is not built yet"),
             Fault::Memory => f.write_str("there is no memory left"),
         }
     }

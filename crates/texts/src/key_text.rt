@@ -2,7 +2,8 @@
 ghost use Rattle.std.specs.Prelude.{ℕ, List, Some, Result};
 ghost use Rattle.std.specs.Fmt.{WritesOnOk};
 ghost use Rattle.refusals.specs.declared.refusal.Refusal.{Refusal};
-ghost use Rattle.texts.specs.KeyText.{Reading, StopWord, ByteWord, stop_text, byte_text};
+ghost use Rattle.texts.specs.Reading.{Reading};
+ghost use Rattle.texts.specs.KeyText.{StopWord, ByteWord, stop_text, byte_text};
 
 use crate::fault::{Expected, Fault};
 use crate::hex::{read_hex, write_hex};

@@ -1,11 +1,10 @@
 //! The words of a line.
-ghost use Rattle.std.specs.Prelude.{◌≡◌, ◌≤◌, IfOk, Some, None, MatchResult, length};
-ghost use Rattle.std.specs.Iterator.{at_most};
-ghost use Rattle.std.specs.Str.Iter.{split_whitespace_rest, split_whitespace_steps};
+ghost use Rattle.std.specs.Prelude.{◌≡◌, ◌≢◌, ℕ, ◌≤◌, List, [], ◌∷◌, IfOk, MatchResult};
+ghost use Rattle.std.specs.Iterator.{YieldsFirstRef, item_count};
 ghost use Rattle.texts.specs.declared.fault.Expected.TheVariants.{End, Number};
 ghost use Rattle.texts.specs.declared.fault.Fault.TheVariants.{Malformed};
 ghost use Rattle.texts.specs.Field.{most_of};
-ghost use Rattle.texts.specs.Words.{decimal_of, uncommented, NextNumber};
+ghost use Rattle.texts.specs.Words.{decimal_of, uncommented, words_of, NextNumber};
 
 use crate::fault::{Expected, Fault};
 use crate::field::Field;
@@ -19,11 +18,16 @@ pub struct Words<'a> {
 }
 
 impl<'a> Model for Words<'a> {
-    ghost use Rattle.std.specs.declared.str.SplitWhitespace.{SplitWhitespace};
+    ghost use Rattle.std.specs.Prelude.{ℕ, List, IsTrue};
+    ghost use Rattle.std.specs.Str.{is_utf8};
+    ghost use Rattle.std.specs.Str.Iter.{split_whitespace_rest};
+    ghost use Rattle.texts.specs.Words.{words_in};
 
-    ghost Value = { SplitWhitespace };
+    ghost Value = { List (List ℕ) };
 
-    ghost view = { λ words. words.rest };
+    ghost view = { λ words. words_in (split_whitespace_rest words.rest) };
+
+    ghost invariant = { λ words. IsTrue (is_utf8 (split_whitespace_rest words.rest)) };
 }
 
 // The number that decimal digits write, where it is at most `most`. There is no sign.
@@ -47,9 +51,9 @@ impl<'a> Iterator for Words<'a> {
     type Item = &'a str;
 
     // The next word, if any.
-    ghost next_gives = { λ before word after. split_whitespace_steps before word after };
+    ghost next_gives = { YieldsFirstRef (λ words. words) };
 
-    ghost remaining = { λ words. at_most (length (split_whitespace_rest words)) };
+    ghost remaining = { item_count (λ words. words) };
 
     fn next(&mut self) -> Option<&'a str> {
         self.rest.next()
@@ -59,7 +63,7 @@ impl<'a> Iterator for Words<'a> {
 impl<'a> Words<'a> {
     /// The words of a line, without its comment.
     pub fn new(line: &'a str) -> Words<'a>
-        ensures { split_whitespace_rest result ≡ uncommented line.now }
+        ensures { result ≡ words_of line.now }
     {
         Words {
             rest: uncomment(line).split_whitespace(),
@@ -68,14 +72,14 @@ impl<'a> Words<'a> {
 
     /// The next word, which has to be there.
     pub fn expect(&mut self, expected: Expected) -> Result<&'a str, Fault>
-        ensures { MatchResult result (λ word. split_whitespace_steps self.old (Some word) self.new) (λ e. (e ≡ Malformed expected) × split_whitespace_steps self.old None self.new) }
+        ensures { MatchResult result (λ word. self.old ≡ word.now ∷ self.new) (λ e. (e ≡ Malformed expected) × (self.old ≡ [])) }
     {
         self.next().ok_or(Fault::Malformed(expected))
     }
 
     /// Nothing more on the line.
     pub fn end(&mut self) -> Result<(), Fault>
-        ensures { MatchResult result (λ _. split_whitespace_steps self.old None self.new) (λ e. e ≡ Malformed End) }
+        ensures { MatchResult result (λ _. self.old ≡ []) (λ e. (e ≡ Malformed End) × (self.old ≢ [])) }
     {
         match self.next() {
             Some(_) => Err(Fault::Malformed(Expected::End)),
@@ -85,7 +89,7 @@ impl<'a> Words<'a> {
 
     /// The next word as a number of its own width.
     pub fn number(&mut self, field: Field) -> Result<u64, Fault>
-        ensures word { MatchResult result (λ n. NextNumber (most_of field) self.old n self.new) (λ e. e ≡ Malformed (Number field)) }
+        ensures word { MatchResult result (λ n. NextNumber (most_of field) self.old n self.new) (λ e. (e ≡ Malformed (Number field)) × ((n : ℕ) (after : List (List ℕ)) → NextNumber (most_of field) self.old n after → ⊥)) }
         ensures bound { IfOk result (λ n. n ≤ most_of field) }
     {
         let expected = Expected::Number(field);
