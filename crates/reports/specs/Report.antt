@@ -1,9 +1,16 @@
 -- The lines of the answers.
 use Rattle.std.specs.Prelude.{ℕ, List, [], ◌∷◌, ◌++◌, codes, decimal}
-use Rattle.std.specs.List.{flat_map}
+use Rattle.std.specs.List.{flat_map, join_with_byte}
 use Rattle.refusals.specs.declared.refusal.Refusal.{Refusal}
 use Rattle.refusals.specs.Refusal.{number_of, layer_of, place_of, letter_of}
 use Rattle.runs.specs.declared.table.Table.{Table}
+use Rattle.strategies.specs.declared.choice.Choice.{Choice}
+use Rattle.strategies.specs.declared.choice.Choice.TheVariants as C
+use Rattle.strategies.specs.declared.choice.Input.{Input}
+use Rattle.slots.specs.declared.job.Task.{Task}
+use Rattle.slots.specs.declared.job.Task.TheVariants as T
+use Rattle.reports.specs.declared.report.Done.{Done}
+use Rattle.reports.specs.declared.report.Done.TheVariants.{Landed, Closed, GivenUp}
 
 -- some words, with a space between two, and the end of the line
 abbrev pub line_of : List (List ℕ) → List ℕ
@@ -19,9 +26,45 @@ spaced ns = flat_map (λ n. 32 ∷ decimal n) ns
 abbrev pub list_line : List ℕ → List ℕ → List ℕ
 list_line title ns = title ++ (58 ∷ (spaced ns ++ (10 ∷ [])))
 
--- a drop: the bytes that the tables have together, and their numbers
-abbrev pub drop_line : ℕ → List ℕ → List ℕ
-drop_line bytes ns = codes "drop bytes" ++ (32 ∷ (decimal bytes ++ list_line [] ns))
+-- where a move or a merge goes, and the bytes that its tables have together
+abbrev pub input_text : Input → List ℕ
+input_text input =
+    join_with_byte 32
+    (codes "to" ∷ decimal input.dest_level ∷ codes "canonical" ∷ decimal input.canonical_level ∷ codes "target" ∷ decimal input.target_size ∷ codes "bytes" ∷ decimal input.tables.bytes ∷ [])
+
+-- a choice, with the numbers of its tables
+abbrev pub choice_text : Choice → List ℕ → List ℕ
+choice_text C.DoNothing ns = codes "nothing"
+choice_text (C.Move input) ns = codes "move " ++ (input_text input ++ (58 ∷ spaced ns))
+choice_text (C.Merge input) ns = codes "merge " ++ (input_text input ++ (58 ∷ spaced ns))
+choice_text (C.Drop named) ns = codes "drop bytes " ++ (decimal named.bytes ++ (58 ∷ spaced ns))
+
+-- what was chosen
+abbrev pub choice_line : Choice → List ℕ → List ℕ
+choice_line choice ns = line_of (choice_text choice ns ∷ [])
+
+-- what was booked, behind the number of its ticket
+abbrev pub booked_line : ℕ → Choice → List ℕ → List ℕ
+booked_line ticket choice ns = line_of (codes "booked" ∷ decimal ticket ∷ choice_text choice ns ∷ [])
+
+-- what is done with a job's tables
+abbrev pub task_text : Task → List ℕ
+task_text (T.Move level) = codes "move to " ++ decimal level
+task_text (T.Merge level) = codes "merge to " ++ decimal level
+task_text T.Drop = codes "drop"
+
+-- a running job, by its number, with the numbers of its tables
+abbrev pub job_line : ℕ → Task → List ℕ → List ℕ
+job_line ticket task ns = codes "job " ++ (decimal ticket ++ (32 ∷ list_line (task_text task) ns))
+
+-- what was done
+abbrev pub done_text : Done → List ℕ
+done_text Landed = codes "landed"
+done_text Closed = codes "closed"
+done_text GivenUp = codes "given up"
+
+abbrev pub done_line : Done → List ℕ
+done_line done = line_of (done_text done ∷ [])
 
 -- a book that was opened on some tables
 abbrev pub opened_line : ℕ → List ℕ
