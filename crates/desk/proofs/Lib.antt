@@ -1,0 +1,6 @@
+mod Ascending
+mod Asking
+mod Making
+mod Opening
+mod Replies
+mod Tickets

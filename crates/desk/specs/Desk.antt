@@ -1,0 +1,14 @@
+-- What the desk answers, as text.
+use Rattle.std.specs.Prelude.{◌≡◌, ℕ, List}
+use Rattle.std.specs.List.{flat_map}
+use Rattle.refusals.specs.declared.refusal.Refusal.{Refusal}
+use Rattle.runs.specs.declared.table.Table.{Table}
+use Rattle.reports.specs.Report.{refused_line, table_line}
+
+-- the line of a refusal, with some words that say it
+abbrev pub Refuses : Refusal → List ℕ → Type 0
+Refuses refusal text = (words : List ℕ) × (text ≡ refused_line refusal words)
+
+-- a line for each table
+abbrev pub table_lines : {K : Type 0} → (K → List ℕ) → List (Table K) → List ℕ
+table_lines spelt ts = flat_map (table_line spelt) ts
