@@ -1,5 +1,5 @@
 -- What a call leaves and says depends on how many places the id sheet has, and not on what they hold; and 1024 of them are enough for any answer.
-use Rattle.std.proofs.Common.{◌≡◌, ℕ, ◌+◌, ◌<◌, ◌≤◌, min, Bool, true, false, cond, ◌&&◌, eqb, ltb, leb, List, [], length, take, replicate, Ok, Err, Result, Ordering, sym, refl, ap, ◌∙◌, subst, inl, inr, arith}
+use Rattle.std.proofs.Common.{◌≡◌, ℕ, ◌+◌, ◌≤◌, min, Bool, true, false, cond, ◌&&◌, eqb, ltb, leb, List, length, take, replicate, Ok, Err, Ordering, sym, refl, ap, ◌∙◌, subst, arith}
 use Rattle.std.specs.List.{list_any}
 use Rattle.std.proofs.lemmas.List.{length-replicate, length-take}
 use Rattle.std.proofs.lemmas.Bool.{and_parts}
@@ -22,7 +22,6 @@ use Rattle.standard.specs.StandardLaws.{standard_lawful}
 use Rattle.books.specs.Book as B
 use Rattle.books.specs.Book.{Question, Booking, Left, job_of, second, look_on, taken, book_choice, book_answer}
 use Rattle.books.specs.Booked.{crosses, book_ok, state_ok}
-use Rattle.books.specs.Calls.{propose, look_ahead, book}
 use Rattle.books.specs.Deed.{Reply, chosen, booked, as_chosen, as_booked, perform}
 use Rattle.books.specs.Job.{job_number, running, started}
 use Rattle.books.specs.State.{State, with_jobs}

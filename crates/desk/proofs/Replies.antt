@@ -1,5 +1,5 @@
 -- The reply to a list of one call.
-use Rattle.std.proofs.Common.{◌≡◌, ℕ, List, [], ◌∷◌, map, get_or, Some, None, Option, Ordering, sym, refl, ap, ◌∙◌, subst}
+use Rattle.std.proofs.Common.{◌≡◌, ℕ, List, [], ◌∷◌, map, get_or, Some, None, Option, Ordering, refl, ap, subst}
 use Rattle.std.specs.Option.{option_map}
 use Rattle.runs.specs.declared.table.Table.{Table}
 use Rattle.strategies.specs.Answer.{Answer}

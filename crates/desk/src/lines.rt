@@ -1,7 +1,8 @@
 //! Answers to a script, line after line.
 use crate::desk::Desk;
+use anyhow::anyhow;
 use std::alloc::Global;
-use std::io::{BufRead, Write};
+use std::io::{BufRead, BufReader, BufWriter, Write};
 use std::{fmt, io};
 use texts::fault::Fault;
 
@@ -70,6 +71,20 @@ pub fn answer_all(
     let mut desk = Desk::new();
     for (line, text) in (1..u64::MAX).zip(script.lines(heap)) {
         answer_line(heap, &mut desk, text, writer).map_err(|cause| Halt { line, cause })?;
+    }
+    Ok(())
+}
+
+/// Answers the script on standard input on standard output, and says on standard error where it is given up.
+pub fn answer_input(rt: &HostRuntime) -> anyhow::Result<()> {
+    let heap = rt.alloc();
+    let script = BufReader::new(heap, rt.stdin())?;
+    let mut writer = BufWriter::new(heap, rt.stdout())?;
+    let answered = answer_all(heap, script, &mut writer);
+    writer.flush()?;
+    if let Err(halt) = answered {
+        eprintln!(rt; "{halt}")?;
+        return Err(anyhow!("the script was not carried out to its end"));
     }
     Ok(())
 }

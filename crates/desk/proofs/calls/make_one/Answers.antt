@@ -1,4 +1,3 @@
-use Rattle.std.proofs.Common.{get_or}
 use Rattle.std.proofs.lemmas.Result.{IfOk-weaker}
 use Rattle.standard.specs.Standard.{standard}
 use Rattle.jobs.specs.View.{state}

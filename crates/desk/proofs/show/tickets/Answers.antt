@@ -1,4 +1,4 @@
-use Rattle.std.proofs.Common.{◌∙◌, ◌++◌, [], ◌∷◌, map, take, sym, ap, rules, arith}
+use Rattle.std.proofs.Common.{◌∙◌, ◌++◌, [], ◌∷◌, map, take, sym, ap, arith}
 use Rattle.slots.specs.View.{slot}
 use Rattle.desk.specs.Show.{tickets}
 use Rattle.desk.proofs.Tickets.{one_more}

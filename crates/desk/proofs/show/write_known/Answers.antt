@@ -1,4 +1,4 @@
-use Rattle.std.proofs.Common.{◌++◌, string_bytes, append-nil, sym, ap, ◌∙◌, refl, rules}
+use Rattle.std.proofs.Common.{◌++◌, string_bytes, append-nil, sym, ap, ◌∙◌}
 use Rattle.std.proofs.lemmas.Result.{IfOk-weaker}
 use Rattle.slots.specs.View.{slot}
 use Rattle.jobs.proofs.Places.{none_found, place_found}
