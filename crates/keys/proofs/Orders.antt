@@ -39,3 +39,7 @@ module _ {K : Type 0} {cmp : K → K → Ordering} (laws : Laws cmp) where
   -- b is not before a, and is before c
   pub le_lt : (a b c : K) → is_lt (cmp b a) ≡ false → is_lt (cmp b c) ≡ true → is_lt (cmp a c) ≡ true
   le_lt a b c p q = at_le_lt a b c (cmp a b) refl p q
+
+  -- a is before b, so b is not before a
+  pub lt_not : (a b : K) → is_lt (cmp a b) ≡ true → is_lt (cmp b a) ≡ false
+  lt_not a b e = ap is_lt (laws.flips a b ∙ ap ordering_reverse (less_from (cmp a b) e))

@@ -8,13 +8,13 @@ use Rattle.std.specs.declared.ops.Bound.TheVariants.{Unbounded, Included, Exclud
 use Rattle.keys.specs.declared.bounds.OwnedBounds.{OwnedBounds}
 
 module _ {K : Type 0} (cmp : K → K → Ordering) where
-  -- a key is not before an included start, and after an excluded one
+  -- a key is not before a start that is included, or is after one that is excluded
   abbrev pub starts_by : Bound K → K → Bool
   starts_by Unbounded key = true
   starts_by (Included first) key = not (is_lt (cmp key first))
   starts_by (Excluded before) key = is_lt (cmp before key)
 
-  -- a key is not after an included end, and before an excluded one
+  -- a key is not after an end that is included, or is before one that is excluded
   abbrev pub ends_by : Bound K → K → Bool
   ends_by Unbounded key = true
   ends_by (Included last) key = not (is_lt (cmp last key))

@@ -9,5 +9,6 @@ use Rattle.keys.specs.declared.byte_key.ByteKey.{ByteKey}
 abbrev pub lex : List ℕ → List ℕ → Ordering
 lex = slice_cmp nat_cmp
 
+-- byte keys go by their bytes
 abbrev pub byte_ranks : ByteKey → ByteKey → Ordering
 byte_ranks = lex

@@ -27,6 +27,7 @@ module _ {A B : Type 0} (R : A → B → Type 0) where
     included : {a : A} {b : B} → R a b → TwinBound (Included a) (Included b)
     excluded : {a : A} {b : B} → R a b → TwinBound (Excluded a) (Excluded b)
 
+  -- both bounds of two pairs of them pair
   pub record TwinBounds (r : OwnedBounds A) (s : OwnedBounds B) : Type 0 where
     pub start : TwinBound r.start s.start
     pub end : TwinBound r.end s.end

@@ -1,5 +1,4 @@
 //! A stop of a tour.
-ghost use Rattle.std.specs.Prelude.{◌≡◌};
 ghost use Rattle.std.proofs.Common.{rules};
 ghost use Rattle.std.specs.Cmp.Rules.{comparing};
 ghost use Rattle.keys.specs.StopKey.{stop_ranks};

@@ -27,6 +27,7 @@ pub fn nearest_f32(x: u64) -> f32
 /// The nearest number of 24 binary digits, at a tie the one whose last digit is even.
 pub fn round_to_24_bits(x: u64) -> Rounded
     requires { x < 2 ^ 48 }
+    ensures unit { result.unit ≡ 2 ^ (Ieee.size x - 24) }
     ensures value { result.digits * result.unit ≡ rounded x }
     ensures same { single (result.digits * result.unit) ≡ single x }
     ensures small { (result.digits ≤ 2 ^ 24) × (result.unit ≤ 2 ^ 24) × (0 < result.unit) × (0 < x → 0 < result.digits) }

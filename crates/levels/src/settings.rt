@@ -1,5 +1,5 @@
 //! What leveled is set to, and the limits of its settings.
-ghost use Rattle.std.specs.Prelude.{◌≡◌, ◌≤◌};
+ghost use Rattle.std.specs.Prelude.{◌≡◌};
 ghost use Rattle.levels.specs.Settings.{defaults, with_target_size, with_threshold, with_ratios, ratios_of, allowed, all_allowed, checked};
 
 use refusals::refusal::Refusal;

@@ -4,8 +4,8 @@ use Rattle.std.specs.List.{ContainsAt, AllByRecursion}
 use Rattle.std.proofs.ByRecursion.{all-has}
 use Rattle.std.proofs.lemmas.Bool.{cases_Bool, both_ways, ltb-true, ltb-false, cases_order}
 use Rattle.windows.specs.declared.slice_windows.Window.{Window}
-use Rattle.windows.specs.SliceWindows.{win, growing, shrinking, Within, Shorter, Longer, Ascends, EachOnce}
-use Rattle.windows.proofs.WindowLists.{growing_once, shrinking_once}
+use Rattle.windows.specs.SliceWindows.{growing, shrinking, Within, Shorter, Longer, Ascends, EachOnce}
+use Rattle.windows.proofs.WindowLists.{same_window, growing_once, shrinking_once}
 use Rattle.picks.specs.Merge.{cheaper, cheapest_of}
 use Rattle.picks.specs.Movable.{first_of}
 
@@ -15,9 +15,6 @@ pub record IsBest (ok : Window → Bool) (cost : Window → ℕ) (R : Window →
   pub passes : ok w ≡ true
   pub least : (v : Window) → R v → ok v ≡ true → cost w ≤ cost v
   pub first : (v : Window) → R v → ok v ≡ true → Lt v w → cost w < cost v
-
-pub same_window : (v w : Window) → v.start ≡ w.start → v.len ≡ w.len → v ≡ w
-same_window v w e f = ap (λ s. win s v.len) e ∙ ap (win w.start) f
 
 -- what a list has is its first or stands behind it
 has_cases : (x : Window) (xs : List Window) (v : Window) → ContainsAt (x ∷ xs) v → (x ≡ v) ⊎ ContainsAt xs v

@@ -1,26 +1,21 @@
 -- Counts and sums over fronts of a run, and over what lies between two places.
 use Rattle.std.proofs.Common.{◌≡◌, ℕ, ◌+◌, ◌-◌, ◌≤◌, Bool, true, false, cond, not, ◌&&◌, List, [], ◌∷◌, map, length, take, drop, sum_by, count_by, sym, refl, ap, ◌∙◌, inl, inr, arith}
-use Rattle.std.proofs.lemmas.List.{take-take, take-map, drop-take, length-take, length-drop}
-use Rattle.std.proofs.lemmas.List.Sums.{sum_by-cons, sum_by-take-drop, count_by-le-length, length-filter}
+use Rattle.std.proofs.lemmas.List.{take-take, take-map, length-take, length-drop}
+use Rattle.std.proofs.lemmas.List.Sums.{sum_by-cons, count_by-le-length, length-filter}
 use Rattle.std.proofs.lemmas.Bool.{cases_lt, cases_Bool}
 use Rattle.sheets.specs.Tables.{memb}
 use Rattle.picks.specs.Marks.{hidden_among, Marked}
 use Rattle.runs.proofs.Falls.{Falls, count_yes, count_no, kept_between}
+use Rattle.windows.proofs.WindowSums.{sum_more}
 
 module _ {T : Type 0} (f : T → ℕ) (ts : List T) where
-  sum_more : (s len : ℕ) → sum_by f (take s ts) + sum_by f (take len (drop s ts)) ≡ sum_by f (take (s + len) ts)
-  sum_more s len =
-      ap (λ us. sum_by f us + sum_by f (take len (drop s ts))) (sym (take-take s (s + len) ts (omega arith)))
-      ∙ ap (λ us. sum_by f (take s (take (s + len) ts)) + sum_by f us) (sym (drop-take s len ts))
-      ∙ sum_by-take-drop f (take (s + len) ts) s
-
   pub sum_window : (s len : ℕ) → sum_by f (take len (drop s ts)) ≡ sum_by f (take (s + len) ts) - sum_by f (take s ts)
-  sum_window s len = omega (arith, sum_more s len)
+  sum_window s len = omega (arith, sum_more f ts s len)
 
   pub sum_mono : (a b : ℕ) → a ≤ b → sum_by f (take a ts) ≤ sum_by f (take b ts)
   sum_mono a b h =
       let e = ap (λ k. sum_by f (take k ts)) (let q : a + (b - a) ≡ b = omega arith in q) in
-      omega (arith, sum_more a (b - a), e)
+      omega (arith, sum_more f ts a (b - a), e)
 
   pub sum_between : (a b : ℕ) → sum_by f (take (b - a) (drop a ts)) ≡ sum_by f (take b ts) - sum_by f (take a ts)
   sum_between a b = elim (cases_lt a b) [

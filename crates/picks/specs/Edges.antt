@@ -15,7 +15,7 @@ head_or f d [] = d
 head_or f d (t ∷ ts) = f t
 
 module _ {K T : Type 0} (cmp : K → K → Ordering) (spans : T → KeyRange K) where
-  -- how many tables of us have passed an end of the table that stands at i in ts; all, if none stands there
+  -- how many tables of us have an end that lies before, or up to, an end of the table that stands at i in ts; all, if none stands there
   unfoldable pub place : End → End → Reach → List T → List T → ℕ → ℕ
   place f e r us ts i = head_or (λ t. count_by (passed cmp spans e r (end_of f (spans t))) us) (length us) (drop i ts)
 

@@ -5,7 +5,7 @@
 //! have a sum above 0 and none of them is hidden. All of its windows are read, length 1 from the left, then 2 and on: one that is too large does not end the reading.
 ghost use Rattle.std.specs.Prelude.{◌≡◌, ◌^◌, ◌≤◌};
 ghost use Rattle.picks.specs.Pick.{pick};
-ghost use Rattle.picks.specs.PickLaw.{PickLaw};
+ghost use Rattle.picks.specs.PickLaw.{PickLaw, OnlyPick};
 
 use crate::edges::Levels;
 use crate::level_run::LevelRun;
@@ -35,6 +35,7 @@ pub fn pick_minimal_compaction<T: TableFile>(
     requires target_small { target_size ≤ 2 ^ 40 }
     ensures picks { result ≡ pick T.Key.ranks T.spans T.bytes T.named hidden_set.now curr.entry.run.tables.now next.entry.run.tables.now target_size }
     ensures law { PickLaw T.Key.ranks T.spans T.bytes T.named hidden_set.now curr.entry.run.tables.now next.entry.run.tables.now target_size result }
+    ensures only { OnlyPick T.Key.ranks T.spans T.bytes T.named hidden_set.now curr.entry.run.tables.now next.entry.run.tables.now target_size result }
 {
     let curr = MarkedRun::new(curr, hidden_set);
     if let Some(window) = curr.longest_movable(&next.run) {

@@ -1,26 +1,23 @@
 -- What the definitions of runs give, one table further.
-use Rattle.std.proofs.Common.{◌≡◌, ℕ, zero, suc, ◌+◌, ◌-◌, ◌<◌, ◌≤◌, Bool, true, false, cond, not, ◌&&◌, List, [], ◌∷◌, length, get_or, take, drop, count_by, filter, Bor, Ordering, sym, refl, ap, ◌∙◌, inl, inr, arith}
+use Rattle.std.proofs.Common.{◌≡◌, ℕ, ◌+◌, ◌-◌, ◌<◌, ◌≤◌, Bool, true, false, not, ◌&&◌, List, [], ◌∷◌, length, get_or, take, drop, count_by, filter, Bor, Ordering, sym, refl, ap, ◌∙◌, inl, inr}
 use Rattle.std.proofs.lemmas.List.{drop_more}
 use Rattle.std.specs.Ordering.{is_lt}
 use Rattle.keys.specs.declared.key_range.KeyRange.{KeyRange}
-use Rattle.std.specs.List.{AllByRecursion, list_all, AllAdjacentBelow, IsAllAdjacentAnswer}
+use Rattle.std.specs.List.{AllByRecursion, list_all, IsAllAdjacentAnswer}
 use Rattle.std.specs.List.Sorted.{IsPartitionPoint, IsPartitionedBy}
 use Rattle.std.specs.Fn.{ComputesKey, Called, Mut}
 use Rattle.std.proofs.lemmas.List.Sorted.{IsPartitionPoint-from_clause}
-use Rattle.std.proofs.lemmas.Bool.{and_parts, and_from, not-true, not-false, cases_Bool, both_ways}
+use Rattle.std.proofs.lemmas.Bool.{and_parts, not-true, not-false, cases_Bool, both_ways}
 use Rattle.keys.specs.KeyKind.{Laws}
 use Rattle.runs.specs.Run.{apart, sorted}
 use Rattle.runs.specs.Search.{End, Min, Max, Reach, Before, UpTo, end_of, reaches, passed}
 use Rattle.runs.proofs.Falls.{Falls, count_no, kept_between, falls_partitioned, point_is_count}
+use Rattle.runs.proofs.Neighbours.{neighbours_are}
 use Rattle.keys.proofs.Orders.{lt_chain, lt_le, le_lt}
 
 -- what is left of a list, where x stands at i
 pub drop_read : {T : Type 0} (ts : List T) (i : ℕ) (t : T) → i < length ts → t ≡ get_or ts i t → drop i ts ≡ t ∷ drop (i + 1) ts
 drop_read ts i t h e = drop_more ts i t h ∙ ap (λ u. u ∷ drop (i + 1) ts) (sym e)
-
-and_no : (b : Bool) → (b && false) ≡ false
-and_no true = refl
-and_no false = refl
 
 four : (o a l f : Bool) → ((o && l) && (a && f)) ≡ (o && (a && (l && f)))
 four true true l f = refl
@@ -46,23 +43,8 @@ module _ {K T : Type 0} (cmp : K → K → Ordering) (spans : T → KeyRange K) 
       four (is_range t) (apart cmp spans (spans t).max ts) (list_all is_range ts) (follow ts)
       ∙ ap (λ b. is_range t && (apart cmp spans (spans t).max ts && b)) (sorted_parts ts)
 
-  shifted : (t : T) (ts : List T) (k : ℕ) (d : T) → precedes (get_or (t ∷ ts) (suc k) d) (get_or (t ∷ ts) (suc k + 1) d) ≡ precedes (get_or ts k d) (get_or ts (k + 1) d)
-  shifted t ts k d = ap (λ n. precedes (get_or ts k d) (get_or (t ∷ ts) n d)) (let e : suc k + 1 ≡ suc (k + 1) = omega arith in e)
-
-  follow_all : (ts : List T) → AllAdjacentBelow (λ t u. true ≡ precedes t u) ts (length ts) → follow ts ≡ true
-  follow_all [] a = refl
-  follow_all (t ∷ []) a = refl
-  follow_all (t ∷ u ∷ us) a = and_from (precedes t u) (follow (u ∷ us)) (sym (a 0 t (omega arith))) (follow_all (u ∷ us) (λ k d h. a (suc k) d (omega arith) ∙ shifted t (u ∷ us) k d))
-
-  follow_not : (ts : List T) (k : ℕ) → k + 1 < length ts → ((d : T) → false ≡ precedes (get_or ts k d) (get_or ts (k + 1) d)) → follow ts ≡ false
-  follow_not [] k h a = absurd (omega arith)
-  follow_not (t ∷ []) k h a = absurd (omega arith)
-  follow_not (t ∷ u ∷ us) zero h a = ap (λ b. b && follow (u ∷ us)) (sym (a t))
-  follow_not (t ∷ u ∷ us) (suc k) h a = ap (λ b. precedes t u && b) (follow_not (u ∷ us) k (omega arith) (λ d. a d ∙ shifted t (u ∷ us) k d)) ∙ and_no (precedes t u)
-
   pub neighbours_follow : (ts : List T) (b : Bool) → IsAllAdjacentAnswer (λ t u a. a ≡ precedes t u) ts b → b ≡ follow ts
-  neighbours_follow ts true a = sym (follow_all ts a)
-  neighbours_follow ts false a = sym (follow_not ts a.0 a.1 a.2)
+  neighbours_follow ts b a = neighbours_are precedes follow refl (λ t. refl) (λ t u us. refl) ts b a
 
 module _ {K T : Type 0} {cmp : K → K → Ordering} (laws : Laws cmp) (spans : T → KeyRange K) where
   at_end : (key : K) (t : T) → is_lt (cmp key (spans t).min) ≡ true → is_lt (cmp key (spans t).max) ≡ true → (e : End) → is_lt (cmp key (end_of e (spans t))) ≡ true

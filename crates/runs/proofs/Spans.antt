@@ -1,11 +1,11 @@
 -- The span of a run goes from the min of its first table to the max of its last; a part of a run is a run.
 use Rattle.std.proofs.Common.{◌≡◌, ℕ, zero, suc, ◌-◌, ◌<◌, true, false, cond, not, ◌&&◌, List, [], ◌∷◌, length, get_or, take, drop, Some, Option, Ordering, sym, refl, ap, ◌∙◌, arith}
-use Rattle.std.specs.Ordering.{is_lt, ordering_reverse}
+use Rattle.std.specs.Ordering.{is_lt}
 use Rattle.std.proofs.lemmas.Bool.{and_parts, and_from, not-true}
 use Rattle.keys.specs.declared.key_range.KeyRange.{KeyRange}
 use Rattle.keys.specs.KeyKind.{Laws}
 use Rattle.runs.specs.Run.{apart, sorted, widened, span_of}
-use Rattle.keys.proofs.Orders.{less_from, lt_le, le_lt}
+use Rattle.keys.proofs.Orders.{lt_not, lt_le, le_lt}
 use Rattle.runs.proofs.Sorteds.{sorted_rest}
 use Rattle.keys.specs.KeyRange.{wider}
 
@@ -18,9 +18,6 @@ abbrev pub range : {K : Type 0} → K → K → KeyRange K
 range a b = record { min = a; max = b }
 
 module _ {K T : Type 0} {cmp : K → K → Ordering} (laws : Laws cmp) (spans : T → KeyRange K) where
-  pub lt_not : (a b : K) → is_lt (cmp a b) ≡ true → is_lt (cmp b a) ≡ false
-  lt_not a b e = ap is_lt (laws.flips a b ∙ ap ordering_reverse (less_from (cmp a b) e))
-
   wider_to : (lo top : K) (u : T) → is_lt (cmp (spans u).min lo) ≡ false → is_lt (cmp top (spans u).max) ≡ true → wider cmp (range lo top) (spans u) ≡ range lo (spans u).max
   wider_to lo top u e f =
       ap (λ b. range (cond b (spans u).min lo) (cond (is_lt (cmp top (spans u).max)) (spans u).max top)) e
@@ -35,9 +32,9 @@ module _ {K T : Type 0} {cmp : K → K → Ordering} (laws : Laws cmp) (spans : 
       let order : is_lt (cmp (spans u).max (spans u).min) ≡ false = not-true _ s.0 in
       let low : is_lt (cmp lo (spans u).min) ≡ true = le_lt laws lo (spans t).max (spans u).min e a in
       let high : is_lt (cmp (spans t).max (spans u).max) ≡ true = lt_le laws (spans t).max (spans u).min (spans u).max a order in
-      let here = wider_to lo (spans t).max u (lt_not lo (spans u).min low) high in
+      let here = wider_to lo (spans t).max u (lt_not laws lo (spans u).min low) high in
       ap (λ x. widened cmp spans x us) here
-      ∙ widened_to lo u us (lt_not lo (spans u).max (lt_le laws lo (spans u).min (spans u).max low order)) r.0 r.1
+      ∙ widened_to lo u us (lt_not laws lo (spans u).max (lt_le laws lo (spans u).min (spans u).max low order)) r.0 r.1
 
   pub span_is : (t : T) (ts : List T) → sorted cmp spans (t ∷ ts) ≡ true → widened cmp spans (spans t) ts ≡ range (spans t).min (spans (last_of t ts)).max
   span_is t ts q =

@@ -14,6 +14,7 @@ pub data Reach : Type 0 where
   Before : Reach
   UpTo : Reach
 
+-- that end of a range
 abbrev pub end_of : {K : Type 0} → End → KeyRange K → K
 end_of Min r = r.min
 end_of Max r = r.max

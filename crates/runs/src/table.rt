@@ -1,6 +1,4 @@
 //! A standing table.
-ghost use Rattle.std.specs.Prelude.{◌≡◌};
-
 use crate::ranged::{Ranged, TableFile};
 use keys::key_kind::KeyKind;
 use keys::key_range::KeyRange;

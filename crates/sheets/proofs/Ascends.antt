@@ -5,7 +5,7 @@ use Rattle.std.proofs.lemmas.Bool.{both_ways, cases_order, and_cases, and_left, 
 use Rattle.keys.specs.KeyKind.{Laws}
 use Rattle.keys.specs.KeyRange.{meets}
 use Rattle.keys.proofs.Numbers.{number_flip, less_number, same_number}
-use Rattle.keys.proofs.Orders.{less_from, lt_chain, lt_le, le_lt}
+use Rattle.keys.proofs.Orders.{lt_chain, lt_le, le_lt, lt_not}
 use Rattle.runs.specs.declared.table.Table.{Table}
 use Rattle.sheets.specs.Level.{Stacked}
 use Rattle.sheets.specs.Members.{Every, Pairs}
@@ -74,9 +74,6 @@ module _ {K : Type 0} {cmp : K → K → Ordering} where
 
 -- ---- with the laws of the keys
 module _ {K : Type 0} {cmp : K → K → Ordering} (laws : Laws cmp) where
-  pub lt_not : (a b : K) → is_lt (cmp a b) ≡ true → is_lt (cmp b a) ≡ false
-  lt_not a b h = ap is_lt (laws.flips a b ∙ ap ordering_reverse (less_from (cmp a b) h))
-
   pub ahead_chain : (t u v : Table K) → Proper cmp u → Ahead cmp t u → Ahead cmp u v → Ahead cmp t v
   ahead_chain t u v p (by_level h) (by_level k) = by_level (omega arith)
   ahead_chain t u v p (by_level h) (by_run e k) = by_level (omega arith)
@@ -100,7 +97,7 @@ module _ {K : Type 0} {cmp : K → K → Ordering} (laws : Laws cmp) where
   sooner_no t u p (by_run e h) = further t.level u.level t.run u.run (cmp t.range.min u.range.min) (sym e) h
   sooner_no t u p (by_key e f h) =
       one_run t.level u.level t.run u.run (cmp t.range.min u.range.min) (sym e) (sym f)
-      ∙ lt_not u.range.min t.range.min (le_lt laws u.range.min u.range.max t.range.min p h)
+      ∙ lt_not laws u.range.min t.range.min (le_lt laws u.range.min u.range.max t.range.min p h)
 
   -- ---- pair by pair: unmet in a run and in order is ahead, and the other way round
   pub unmet_cases : (t u : Table K) → meets cmp t.range u.range ≡ false → (is_lt (cmp t.range.max u.range.min) ≡ true) ⊎ (is_lt (cmp u.range.max t.range.min) ≡ true)

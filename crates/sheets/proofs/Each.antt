@@ -1,5 +1,5 @@
 -- Who stands in a list, and what holds of each, of some and of each two.
-use Rattle.std.proofs.Common.{◌||◌, ◌≡◌, ℕ, Bool, true, false, cond, eqb, ◌⊎◌, List, [], ◌∷◌, map, filter, sym, refl, ap, ◌∙◌, subst, inl, inr}
+use Rattle.std.proofs.Common.{◌||◌, ◌&&◌, ◌≡◌, ℕ, Bool, true, false, cond, eqb, ◌⊎◌, List, [], ◌∷◌, map, filter, sym, refl, ap, ◌∙◌, subst, inl, inr}
 use Rattle.std.specs.List.{list_any, list_all}
 use Rattle.std.proofs.lemmas.Bool.{true≢false, cases_Bool, eq-eqb, eqb-true, and_parts, and_from}
 use Rattle.sheets.specs.Members.{In, here, later, Every, Pairs, none, more}
@@ -96,3 +96,13 @@ pub in_memb : (n : ℕ) (ns : List ℕ) → In n ns → memb n ns ≡ true
 in_memb n [] k = elim k [ ]
 in_memb n (m ∷ ms) (here e) = let q : eqb m n ≡ true = eq-eqb m n (sym e) in rw q
 in_memb n (m ∷ ms) (later k) = let r = in_memb n ms k in elim (eqb m n) as (λ b. (b || memb n ms) ≡ true) [ true ↦ refl | false ↦ r ]
+
+-- ---- two tests that agree
+module _ {X : Type 0} (p q : X → Bool) (same : (x : X) → p x ≡ q x) where
+  pub some_same : (xs : List X) → list_any p xs ≡ list_any q xs
+  some_same [] = refl
+  some_same (x ∷ xs) = ap (λ b. b || list_any p xs) (same x) ∙ ap (λ b. q x || b) (some_same xs)
+
+  pub all_same : (xs : List X) → list_all p xs ≡ list_all q xs
+  all_same [] = refl
+  all_same (x ∷ xs) = ap (λ b. b && list_all p xs) (same x) ∙ ap (λ b. q x && b) (all_same xs)

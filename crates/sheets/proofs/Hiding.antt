@@ -1,8 +1,8 @@
 -- Steps through a list of numbers that are hidden, or asked for.
-use Rattle.std.proofs.Common.{◌≡◌, ℕ, ◌+◌, ◌<◌, ◌≤◌, Bool, true, false, cond, not, ◌&&◌, ◌||◌, eqb, leb, List, [], ◌∷◌, ◌++◌, length, get_or, take, drop, sym, refl, ap, ◌∙◌, arith}
+use Rattle.std.proofs.Common.{◌≡◌, ℕ, ◌+◌, ◌<◌, ◌≤◌, Bool, true, false, cond, ◌||◌, eqb, leb, List, [], ◌∷◌, ◌++◌, length, get_or, take, drop, sym, refl, ap, ◌∙◌, arith}
 use Rattle.std.proofs.lemmas.List.{at_drop_more, length_push, take_at, take_all, take-take}
-use Rattle.std.proofs.lemmas.Bool.{lt-leb, eqb-true, and_right}
-use Rattle.sheets.specs.HiddenSet.{hiding, showing}
+use Rattle.std.proofs.lemmas.Bool.{lt-leb, eqb-true}
+use Rattle.sheets.specs.HiddenSet.{hiding}
 use Rattle.sheets.specs.Tables.{memb}
 
 module _ (hs xs : List ℕ) (i : ℕ) (within : i < length xs) where
@@ -70,20 +70,3 @@ memb_hiding n hs [] = sym (or_false (memb n hs))
 memb_hiding n hs (m ∷ ms) =
     memb_hiding n (cond (memb m hs) hs (hs ++ m ∷ [])) ms
     ∙ ap (λ b. b || memb n ms) (memb_more n m hs (memb m hs) (eqb m n) refl refl) ∙ or_step (memb n hs) (eqb m n) (memb n ms)
-
--- what was hidden and is not shown
-pub memb_showing : (n : ℕ) (ns hs : List ℕ) → memb n (showing ns hs) ≡ (memb n hs && not (memb n ns))
-memb_showing n ns [] = refl
-memb_showing n ns (h ∷ hs) =
-    let rest = memb_showing n ns hs in
-    let same : eqb h n ≡ true → memb h ns ≡ memb n ns = λ e. ap (λ k. memb k ns) (eqb-true h n e) in
-    elim (memb h ns) as (λ b. memb h ns ≡ b → memb n (cond (not b) (h ∷ showing ns hs) (showing ns hs)) ≡ (memb n (h ∷ hs) && not (memb n ns))) [
-      | true ↦ λ p. elim (eqb h n) as (λ e. eqb h n ≡ e → memb n (showing ns hs) ≡ ((e || memb n hs) && not (memb n ns))) [
-        | true ↦ λ q. let there = sym (same q) ∙ p in rest ∙ rw there (and_right (memb n hs) false refl)
-        | false ↦ λ q. rest
-      ] refl
-      | false ↦ λ p. elim (eqb h n) as (λ e. eqb h n ≡ e → (e || memb n (showing ns hs)) ≡ ((e || memb n hs) && not (memb n ns))) [
-        | true ↦ λ q. let gone = sym (same q) ∙ p in rw gone
-        | false ↦ λ q. rest
-      ] refl
-    ] refl

@@ -4,14 +4,16 @@ use Rattle.std.proofs.lemmas.List.Elements.{filter_more}
 use Rattle.std.proofs.lemmas.List.Filters.{sum_by-filter_both}
 use Rattle.std.proofs.lemmas.List.{nil_from_length}
 use Rattle.std.proofs.lemmas.List.Sums.{sum_by-append}
-use Rattle.std.proofs.lemmas.Bool.{cases_Bool, ltb-false, lt-ltb, le-ltb, eqb-true}
+use Rattle.std.proofs.lemmas.Bool.{cases_Bool, ltb-false, lt-ltb, le-ltb, eqb-true, eqb-false}
 use Rattle.std.proofs.lemmas.Bool.Decides.{nat_tests}
 use Rattle.runs.specs.declared.table.Table.{Table}
 use Rattle.runs.proofs.Falls.{Falls, count_yes, count_no, kept_between}
+use Rattle.runs.proofs.Sorteds.{drop_read}
 use Rattle.sheets.specs.Level.{size_of, in_level, level_of, count_of, filled, runs, Stacked}
 use Rattle.sheets.specs.Members.{In, here, later, Every, Pairs, none, more}
+use Rattle.sheets.specs.Sound.{counts_on}
 use Rattle.sheets.specs.Tables.{named, unnamed, without}
-use Rattle.sheets.proofs.Each.{in_kept, kept_pairs, pairs_weaker}
+use Rattle.sheets.proofs.Each.{none_in, in_cases, in_kept, kept_pairs, pairs_weaker}
 
 -- two tests that agree keep the same
 pub kept_like : {X : Type 0} (p q : X → Bool) → ((x : X) → p x ≡ q x) → (xs : List X) → filter p xs ≡ filter q xs
@@ -119,3 +121,19 @@ module _ {K : Type 0} where
   filled_is n (t ∷ ts) =
       let rest = filled_is n ts in
       elim (in_level n t) as (λ b. (b || filled ts n) ≡ ltb 0 (length (cond b (t ∷ level_of n ts) (level_of n ts)))) [ true ↦ sym (lt-ltb 0 (suc (count_of ts n)) (omega arith)) | false ↦ rest ]
+
+-- ---- runs
+module _ {K : Type 0} where
+  -- a table of level 0 is in one of its runs
+  pub runs_above : (ts : List (Table K)) (t : Table K) → In t ts → t.level ≡ 0 → t.run < runs ts
+  runs_above [] t m e = absurd (none_in m)
+  runs_above (u ∷ us) t m e =
+      elim (in_level 0 u) as (λ b. in_level 0 u ≡ b → t.run < cond b (max (suc u.run) (runs us)) (runs us)) [
+        | true ↦ λ z. elim (in_cases m) [ inl q ↦ omega (arith, ap (λ (x : Table K). x.run) q) | inr n ↦ omega (arith, runs_above us t n e) ]
+        | false ↦ λ z. elim (in_cases m) [ inl q ↦ absurd (eqb-false u.level 0 z (sym (ap (λ (x : Table K). x.level) q) ∙ e)) | inr n ↦ runs_above us t n e ]
+      ] refl
+
+-- the runs, one table further
+pub counts_at : {K : Type 0} (n : ℕ) (ts : List (Table K)) (i : ℕ) (t : Table K) → i < length ts → t ≡ get_or ts i t
+    → counts_on n (drop i ts) ≡ cond (eqb t.level 0) (cond (eqb t.run n) (counts_on (suc n) (drop (i + 1) ts)) (eqb (suc t.run) n && counts_on n (drop (i + 1) ts))) (eqb t.run 0 && counts_on n (drop (i + 1) ts))
+counts_at n ts i t h e = ap (counts_on n) (drop_read ts i t h e)

@@ -9,5 +9,4 @@ pub mod Hiding
 pub mod Inserts
 pub mod Laid
 pub mod Levels
-pub mod Neighbours
 pub mod Soundness

@@ -85,7 +85,8 @@ module _ {K : Type 0} where
             }
       ] refl h
 
-  ahead_run : (cmp : K → K → Ordering) (t u : Table K) → Ahead cmp t u → u.level ≡ 0 → t.run ≤ u.run
+  -- in level 0 the run of a table is at least that of one ahead of it
+  pub ahead_run : (cmp : K → K → Ordering) (t u : Table K) → Ahead cmp t u → u.level ≡ 0 → t.run ≤ u.run
   ahead_run cmp t u (by_level h) e = absurd (omega arith)
   ahead_run cmp t u (by_run f h) e = omega arith
   ahead_run cmp t u (by_key f g h) e = omega arith

@@ -105,6 +105,7 @@ fn tables_differ<K>(tables: &[Table<K>]) -> bool
 pub fn numbers_differ(numbers: &mut [u64]) -> bool
     ensures answer { result ≡ distinct numbers.old }
     ensures kept { IsPermutation numbers.old numbers.new }
+    ensures sorted { IsNonDecreasing numbers.new }
 {
     numbers.sort_unstable();
     neighbours_differ(numbers)

@@ -6,7 +6,8 @@ use Rattle.std.proofs.lemmas.Bool.{cases_lt}
 use Rattle.windows.specs.declared.slice_windows.Window.{Window}
 use Rattle.windows.specs.SliceWindows.{win, from_left, growing_from, growing, shrinking_from, shrinking, Within, Shorter, Longer, Ascends, EachOnce}
 
-same_window : (v w : Window) → v.start ≡ w.start → v.len ≡ w.len → v ≡ w
+-- a window is where it starts and how long it is
+pub same_window : (v w : Window) → v.start ≡ w.start → v.len ≡ w.len → v ≡ w
 same_window v w e f = ap (λ s. win s v.len) e ∙ ap (win w.start) f
 
 -- what ascends goes on ascending behind what is before all of it

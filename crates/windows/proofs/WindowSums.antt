@@ -8,7 +8,7 @@ use Rattle.windows.specs.Cursor.{readable}
 
 module _ {T : Type 0} (f : T → ℕ) (ts : List T) where
   -- a window's sum is what a longer front has more
-  sum_more : (s len : ℕ) → sum_by f (take s ts) + sum_by f (take len (drop s ts)) ≡ sum_by f (take (s + len) ts)
+  pub sum_more : (s len : ℕ) → sum_by f (take s ts) + sum_by f (take len (drop s ts)) ≡ sum_by f (take (s + len) ts)
   sum_more s len =
       ap (λ us. sum_by f us + sum_by f (take len (drop s ts))) (sym (take-take s (s + len) ts (omega arith)))
       ∙ ap (λ us. sum_by f (take s (take (s + len) ts)) + sum_by f us) (sym (drop-take s len ts))

@@ -16,7 +16,7 @@ pub struct Window {
 }
 
 impl Window {
-    /// The tables of the window.
+    /// The tables of the window, which is one of theirs: hence the `requires`.
     pub fn of<'a, T>(&self, tables: &'a [T]) -> &'a [T]
         requires { self.now.start + self.now.len ≤ length tables.now }
         ensures { result.now ≡ tables_of self.now tables.now }

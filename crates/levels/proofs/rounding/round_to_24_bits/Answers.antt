@@ -44,6 +44,7 @@ returns c =
     let e = c.unit_of-unit.ensures in
     let f = c.nearest_multiple-digits.ensures in
     let q = is_product x u d e f in record {
+      unit = e;
       value = q ∙ digits_rounded x c.requires;
       same = ap single q ∙ digits_single x c.requires;
       small = (digits_small x u d e f, unit_le x u c.requires e, unit_pos x u e, λ h. subst (λ (z : ℕ). 0 < z) (sym (by_unit x u d e f)) (digits_pos x h));

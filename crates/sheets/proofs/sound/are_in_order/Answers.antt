@@ -1,7 +1,7 @@
 use Rattle.std.proofs.Common.{refl, rules}
 use Rattle.std.proofs.lemmas.Fn.{always_returns_same}
 use Rattle.sheets.specs.Sound.{ahead, in_order}
-use Rattle.sheets.proofs.Neighbours.{neighbours_are}
+use Rattle.runs.proofs.Neighbours.{neighbours_are}
 use Rattle.sheets.proofs.sound.are_in_order.Goals as goal
 
 pub returns : goal.returns

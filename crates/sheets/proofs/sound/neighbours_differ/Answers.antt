@@ -1,7 +1,7 @@
 use Rattle.std.proofs.Common.{not, eqb, refl, sym, ◌∙◌, rules}
 use Rattle.std.proofs.lemmas.Fn.{always_returns_same}
 use Rattle.sheets.proofs.Distinct.{differ_next, risen}
-use Rattle.sheets.proofs.Neighbours.{neighbours_are}
+use Rattle.runs.proofs.Neighbours.{neighbours_are}
 use Rattle.sheets.proofs.sound.neighbours_differ.Goals as goal
 
 pub returns : goal.returns

@@ -8,3 +8,6 @@ neighbours_differ-requires c = IsNonDecreasingBy-from_sort (λ x. x) c.sort_unst
 
 pub returns-clause-answer : goal.returns-clause-answer
 returns-clause-answer c = c.neighbours_differ.ensures ∙ distinct_shuffled c.args.numbers.now c.sort_unstable.new.self c.sort_unstable.ensures.permutation
+
+pub returns-clause-sorted : goal.returns-clause-sorted
+returns-clause-sorted c = IsNonDecreasingBy-from_sort (λ x. x) c.sort_unstable.new.self c.sort_unstable.ensures.sorted

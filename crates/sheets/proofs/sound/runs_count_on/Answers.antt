@@ -2,7 +2,7 @@ use Rattle.std.proofs.Common.{sym, ap, ◌∙◌, arith}
 use Rattle.std.proofs.lemmas.List.{drop_all}
 use Rattle.std.proofs.lemmas.Bool.Decides.{nat_tests}
 use Rattle.sheets.specs.Sound.{counts_on}
-use Rattle.sheets.proofs.Neighbours.{counts_at}
+use Rattle.sheets.proofs.Levels.{counts_at}
 use Rattle.sheets.proofs.sound.runs_count_on.Goals as goal
 use Rattle.sheets.proofs.sound.runs_count_on.Goals.{then-t-gt0+else-run-gt0, else-t-gt0+then-run-counted, else-t-gt0+else-run-counted+else-run-counted-2}
 

@@ -1,4 +1,4 @@
-use Rattle.std.proofs.Common.{◌≡◌, ap, ◌∙◌, arith}
+use Rattle.std.proofs.Common.{ap, ◌∙◌, arith}
 use Rattle.runs.proofs.Spans.{is_span}
 use Rattle.runs.proofs.sorted_run.SortedRun.key_range.Goals as goal
 

@@ -1,4 +1,4 @@
-use Rattle.std.proofs.Common.{◌≡◌, ◌-◌, ◌^◌, ◌≤◌, length, sum_by, sym, ap, ◌∙◌, arith, rules}
+use Rattle.std.proofs.Common.{◌^◌, ◌≤◌, length, sum_by, sym, ap, ◌∙◌, arith, rules}
 use Rattle.windows.specs.declared.slice_windows.Order.TheVariants.{Growing, Shrinking}
 use Rattle.windows.specs.Cursor.{standing, in_order}
 use Rattle.windows.proofs.Behind.{standing_shrinking}

@@ -1,12 +1,9 @@
--- The tests that go through a sheet: each table and the next, and the runs of level 0.
-use Rattle.std.proofs.Common.{◌≡◌, ℕ, zero, suc, ◌+◌, ◌<◌, Bool, true, false, cond, ◌&&◌, eqb, List, [], ◌∷◌, length, get_or, drop, sym, refl, ap, ◌∙◌, arith}
+-- A test of a list that goes through each element and the next.
+use Rattle.std.proofs.Common.{◌≡◌, ℕ, zero, suc, ◌+◌, ◌<◌, Bool, true, false, ◌&&◌, List, [], ◌∷◌, length, get_or, sym, refl, ap, ◌∙◌, arith}
 use Rattle.std.specs.List.{AllAdjacentBelow, IsAllAdjacentAnswer}
 use Rattle.std.proofs.lemmas.Bool.{and_from}
-use Rattle.runs.specs.declared.table.Table.{Table}
-use Rattle.runs.proofs.Sorteds.{drop_read}
-use Rattle.sheets.specs.Sound.{counts_on}
 
--- a test F of a list that asks e of each element and the next
+-- F asks e of each element and the next
 module _ {X : Type 0} (e : X → X → Bool) (F : List X → Bool) (none : F [] ≡ true) (one : (x : X) → F (x ∷ []) ≡ true) (more : (x y : X) (ys : List X) → F (x ∷ y ∷ ys) ≡ (e x y && F (y ∷ ys))) where
   shifted : (x : X) (ys : List X) (k : ℕ) (d : X) → e (get_or (x ∷ ys) (suc k) d) (get_or (x ∷ ys) (suc k + 1) d) ≡ e (get_or ys k d) (get_or ys (k + 1) d)
   shifted x ys k d = ap (λ n. e (get_or ys k d) (get_or (x ∷ ys) n d)) (let s : suc k + 1 ≡ suc (k + 1) = omega arith in s)
@@ -29,8 +26,3 @@ module _ {X : Type 0} (e : X → X → Bool) (F : List X → Bool) (none : F [] 
   pub neighbours_are : (xs : List X) (b : Bool) → IsAllAdjacentAnswer (λ x y a. a ≡ e x y) xs b → b ≡ F xs
   neighbours_are xs true a = sym (each xs a)
   neighbours_are xs false a = sym (fails xs a.0 a.1 a.2)
-
--- the runs, one table further
-pub counts_at : {K : Type 0} (n : ℕ) (ts : List (Table K)) (i : ℕ) (t : Table K) → i < length ts → t ≡ get_or ts i t
-    → counts_on n (drop i ts) ≡ cond (eqb t.level 0) (cond (eqb t.run n) (counts_on (suc n) (drop (i + 1) ts)) (eqb (suc t.run) n && counts_on n (drop (i + 1) ts))) (eqb t.run 0 && counts_on n (drop (i + 1) ts))
-counts_at n ts i t h e = ap (counts_on n) (drop_read ts i t h e)
