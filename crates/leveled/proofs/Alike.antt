@@ -18,11 +18,12 @@ use Rattle.picks.proofs.Alike.{meets_span_alike, inside_span_alike, tables_alike
 use Rattle.sheets.specs.Level.{numbers_of, level_of, filled, touched}
 use Rattle.sheets.specs.Tables.{memb}
 use Rattle.sheets.proofs.AlikeLevels.{some_alike, numbers_alike, in_level_alike, level_alike, count_of_alike, filled_alike, touched_alike, free_alike, runs_alike}
+use Rattle.sheets.proofs.Each.{some_same, all_same}
 use Rattle.strategies.specs.declared.choice.Kind.TheVariants.{Move, Merge}
 use Rattle.strategies.specs.declared.declined.Declined.TheVariants.{BadSetting}
 use Rattle.strategies.specs.Answer.{declines}
 use Rattle.leveled.specs.Leveled.{deeper, one_run, first_filled, overfull, falls, lowered, first_level, score_of, scores, met, zero_and, sinks, slides, zero_won, moved, covered, merged, picked, pick_for, won, from_first, leveled}
-use Rattle.strategies.proofs.NamingAlike.{cond_same, and_same, or_same, some_same, all_same, map_like, TestsAlike, naming_alike, spans_meet_alike}
+use Rattle.strategies.proofs.NamingAlike.{cond_same, and_same, or_same, map_like, TestsAlike, naming_alike, spans_meet_alike}
 
 -- ---- levels and scores
 module _ {A B : Type 0} (R : A → B → Type 0) {ts : List (Table A)} {us : List (Table B)} (w : Both (Twin R) ts us) where

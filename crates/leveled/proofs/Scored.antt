@@ -1,6 +1,6 @@
 -- The score of a level, case by case.
-use Rattle.std.proofs.Common.{◌≡◌, ℕ, ◌<◌, ◌≤◌, true, false, cond, ◌&&◌, eqb, leb, List, length, get_or, Some, None, sym, refl, ap, ◌∙◌, inl, inr, arith}
-use lib.Ieee.{Float, nan, of_int, lt}
+use Rattle.std.proofs.Common.{◌≡◌, ℕ, ◌<◌, ◌≤◌, false, cond, ◌&&◌, eqb, leb, List, length, get_or, Some, None, sym, ap, ◌∙◌, inl, inr, arith}
+use lib.Ieee.{Float, nan, lt}
 use Rattle.std.proofs.lemmas.List.FromFn.{get_or-map-range_with_len}
 use Rattle.std.proofs.lemmas.List.Sums.{length-filter, count_by-le-length}
 use Rattle.std.proofs.lemmas.Bool.{both_ways, cases_Bool, cases_lt, and_left, cond-true, cond-false, ne_eqb, lt-leb}
@@ -10,7 +10,7 @@ use Rattle.runs.specs.declared.table.Table.{Table}
 use Rattle.sheets.specs.Level.{size_of, in_level, level_of, count_of, free_of}
 use Rattle.sheets.proofs.Levels.{without_less, level_less}
 use Rattle.leveled.specs.Leveled.{score_of, scores}
-use Rattle.leveled.specs.Laws.{wins_low}
+use Rattle.leveled.specs.Laws.{none_below_one, wins_low}
 
 module _ {K : Type 0} (ts : List (Table K)) (n : ℕ) where
   pub count_less : count_of ts n ≤ length ts
@@ -28,10 +28,6 @@ module _ {K : Type 0} (s : Settings) (ts : List (Table K)) (hs : List ℕ) (l n 
   score_low z h = score_out z (and_left (leb l n) (leb n 5) (lt-leb l n h))
 
 -- ---- the level that wins
-none_below_one : lt none (double 1) ≡ true
-unfolding lt of_int
-none_below_one = refl
-
 -- its score is not below 1
 chosen_score : (ss : List Float) (n : ℕ) → chosen ss ≡ Some n → lt (get_or ss n nan) (double 1) ≡ false
 chosen_score ss n e = at (winner ss 7) e

@@ -1,10 +1,10 @@
 -- A level that is one run: two of its tables do not meet, and its tables are a run.
 -- Lemmas for a law that an impl owes, whose term can cite specs/ alone: they are proved, and nothing here has to be believed.
-use Rattle.std.specs.Prelude.{◌≡◌, ℕ, zero, suc, ◌<◌, ◌≤◌, max, true, false, cond, not, ◌⊎◌, List, [], ◌∷◌, ◌==◌, refl}
+use Rattle.std.specs.Prelude.{◌≡◌, ℕ, zero, suc, ◌≤◌, true, false, not, ◌⊎◌, List, [], ◌∷◌, refl}
 use Rattle.std.specs.declared.cmp.Ordering.{Ordering}
 use Rattle.std.proofs.Common.{sym, ap, ◌∙◌, inl, inr, arith}
 use Rattle.std.specs.Ordering.{is_lt}
-use Rattle.std.proofs.lemmas.Bool.{and_from, and_left, and_right, not_from_true, not_from_false, eqb-true, eqb-false, eq-eqb}
+use Rattle.std.proofs.lemmas.Bool.{and_from, and_left, and_right, not_from_true, not_from_false, eqb-true, eq-eqb}
 use Rattle.keys.specs.KeyKind.{Laws}
 use Rattle.keys.specs.KeyRange.{meets}
 use Rattle.runs.specs.declared.table.Table.{Table}
@@ -13,7 +13,8 @@ use Rattle.sheets.specs.Level.{in_level, level_of, runs}
 use Rattle.sheets.specs.Members.{In, here, later, Every, Pairs, none, more}
 use Rattle.sheets.specs.Sound.{Differ, Proper, Ordered, tables_ok}
 use Rattle.sheets.proofs.Ascends.{Ahead, by_level, by_run, by_key, ordered_ascends}
-use Rattle.sheets.proofs.Each.{none_in, in_cases, in_kept, kept_in, kept_pairs, pairs_weaker, pair_in}
+use Rattle.sheets.proofs.Each.{in_kept, kept_in, kept_pairs, pairs_weaker, pair_in}
+use Rattle.sheets.proofs.Levels.{runs_above}
 use Rattle.sheets.proofs.Soundness.{sound_from_test}
 
 -- t ends before u begins
@@ -21,15 +22,6 @@ abbrev pub Before : {K : Type 0} → (K → K → Ordering) → Table K → Tabl
 Before cmp t u = is_lt (cmp t.range.max u.range.min) ≡ true
 
 module _ {K : Type 0} where
-  -- a table of level 0 is in one of its runs
-  pub runs_above : (ts : List (Table K)) (t : Table K) → In t ts → t.level ≡ 0 → t.run < runs ts
-  runs_above [] t m e = absurd (none_in m)
-  runs_above (u ∷ us) t m e =
-      elim (u.level == 0) as (λ b. (u.level == 0) ≡ b → t.run < cond b (max (suc u.run) (runs us)) (runs us)) [
-        | true ↦ λ z. elim (in_cases m) [ inl q ↦ omega (arith, ap (λ (x : Table K). x.run) q) | inr n ↦ omega (arith, runs_above us t n e) ]
-        | false ↦ λ z. elim (in_cases m) [ inl q ↦ absurd (eqb-false u.level 0 z (sym (ap (λ (x : Table K). x.level) q) ∙ e)) | inr n ↦ runs_above us t n e ]
-      ] refl
-
   at_level : (ts : List (Table K)) (n : ℕ) (t : Table K) → In t (level_of n ts) → t.level ≡ n
   at_level ts n t m = eqb-true t.level n (in_kept (in_level n) ts t m).1
 

@@ -45,6 +45,7 @@ module _ {K : Type 0} (s : Settings) (ts : List (Table K)) (hs : List ℕ) where
   abbrev pub falls : ℕ → Bool
   falls l = nat_lt 1 l && (list_any (filled ts) deeper && list_all (overfull l) deeper)
 
+  -- a first level, fallen by 1 where it falls
   abbrev pub lowered : ℕ → ℕ
   lowered l = cond (falls l) (l - 1) l
 
@@ -58,6 +59,7 @@ module _ {K : Type 0} (s : Settings) (ts : List (Table K)) (hs : List ℕ) where
       cond (n == 0) (S.first_level_score (count_of ts 0) s.threshold)
       (cond (nat_le l n && nat_le n 5) (S.level_score (free_of hs ts n) (target_at s (n - (l - 1))) (not (filled ts (suc n)))) S.none)
 
+  -- the scores of the seven levels
   abbrev pub scores : ℕ → List Float
   scores l = map (score_of l) (0 ∷ deeper)
 
@@ -86,13 +88,15 @@ module _ {K : Type 0} (cmp : K → K → Ordering) (s : Settings) (ts : List (Ta
       cond (touched hs ts 0 || touched hs ts l) nothing
       (cond (one_run ts && not (list_any (met l) ts)) (naming Move l 1 s.target_size (zero_and l) ts) (naming Merge l 1 s.target_size (zero_and l) ts))
 
-  -- 6. level n won: the tables of a window, or of a window of the next level with those that it contains
+  -- 6. level n won: a table of a window of the level
   abbrev pub moved : ℕ → Window → Table K → Bool
   moved n w t = named (numbers_of (tables_of w (level_of n ts))) t
 
+  -- a table of the level that a window of the next one contains
   abbrev pub covered : ℕ → Window → Table K → Bool
   covered n w t = in_level n t && inside_span cmp (λ u. u.range) (span_of cmp (λ u. u.range) (tables_of w (level_of (suc n) ts))) t
 
+  -- one of these, or of that window
   abbrev pub merged : ℕ → Window → Table K → Bool
   merged n w t = covered n w t || moved (suc n) w t
 
@@ -102,6 +106,7 @@ module _ {K : Type 0} (cmp : K → K → Ordering) (s : Settings) (ts : List (Ta
   picked l n (Some (P.Merge m)) = naming Merge (suc n) (suc n - (l - 1)) s.target_size (merged n m.next) ts
   picked l n None = nothing
 
+  -- what is picked for level n and the next
   abbrev pub pick_for : ℕ → Option Pick
   pick_for n = pick cmp (λ t. t.range) (λ t. t.size) (λ t. t.number) hs (level_of n ts) (level_of (suc n) ts) s.target_size
 

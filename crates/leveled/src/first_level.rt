@@ -27,7 +27,7 @@ impl FirstLevel {
 }
 
 impl<'a, K: KeyKind> Survey<'a, K> {
-    /// The first non-empty level from 1, else 6; one less where each level that has a table is overfull.
+    /// The first non-empty level from 1, else 6; one less where it is above 1, a level from 1 has a table, and each that has is overfull.
     pub fn first_level(&self) -> FirstLevel
         ensures { result.n ≡ first_level (set_to self.now) (standing self.now) (hides self.now) }
     {

@@ -19,7 +19,7 @@ impl<'a, K: KeyKind> Survey<'a, K> {
         ensures { result ≡ spans_meet K.ranks (span_of K.ranks (λ t. t.range) (level_of 0 (standing self.now))) (span_of K.ranks (λ t. t.range) (level_of 6 (standing self.now))) }
     {
         let first = aggregate(self.tables_of(0));
-        let last = aggregate(self.tables_of(LAST_LEVEL));
+        let last = self.run_of(LAST_LEVEL).run.key_range();
         spans_meet(first, last)
     }
 

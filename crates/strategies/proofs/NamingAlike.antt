@@ -1,6 +1,5 @@
 -- On tables that are equal but for keys that compare alike, tests that come out alike name alike.
 use Rattle.std.proofs.Common.{◌≡◌, ℕ, Bool, cond, ◌&&◌, ◌||◌, List, [], ◌∷◌, map, filter, Option, Ordering, refl, ap, ◌∙◌}
-use Rattle.std.specs.List.{list_any, list_all}
 use Rattle.keys.specs.declared.key_range.KeyRange.{KeyRange}
 use Rattle.keys.specs.Pairing.{Both, CompareAlike}
 use Rattle.keys.proofs.Alike.{cond_alike, kept_alike, meets_alike}
@@ -23,14 +22,6 @@ pub or_same : {a b c d : Bool} → a ≡ b → c ≡ d → (a || c) ≡ (b || d)
 or_same e f = rw (e, f)
 
 module _ {X : Type 0} where
-  pub some_same : (p q : X → Bool) → ((x : X) → p x ≡ q x) → (xs : List X) → list_any p xs ≡ list_any q xs
-  some_same p q f [] = refl
-  some_same p q f (x ∷ xs) = rw (f x, some_same p q f xs)
-
-  pub all_same : (p q : X → Bool) → ((x : X) → p x ≡ q x) → (xs : List X) → list_all p xs ≡ list_all q xs
-  all_same p q f [] = refl
-  all_same p q f (x ∷ xs) = rw (f x, all_same p q f xs)
-
   pub map_like : {Y : Type 0} (f g : X → Y) → ((x : X) → f x ≡ g x) → (xs : List X) → map f xs ≡ map g xs
   map_like f g h [] = refl
   map_like f g h (x ∷ xs) = rw (h x, map_like f g h xs)

@@ -12,7 +12,7 @@ use Rattle.strategies.specs.declared.choice.Kind.TheVariants.{Move, Merge, Drop}
 use Rattle.strategies.specs.declared.declined.Declined.{Declined}
 use Rattle.strategies.specs.declared.declined.Declined.TheVariants.{BadSetting, ManyRuns, HiddenTable}
 
--- what is chosen: the numbers in sheet order and the sum of their sizes; a drop has 0 in the last three
+-- what is chosen: what to do, with the tables of these numbers, the sum of their sizes, and where to; a drop has 0 in the last three
 pub record Chosen : Type 0 where
   pub kind : Kind
   pub numbers : List ℕ
@@ -21,6 +21,7 @@ pub record Chosen : Type 0 where
   pub canonical : ℕ
   pub target : ℕ
 
+-- doing nothing, a choice, or the strategy's own refusal
 pub data Answer : Type 0 where
   nothing : Answer
   chooses : Chosen → Answer

@@ -1,5 +1,4 @@
 //! Range drop: all tables that lie wholly inside two bounds.
-ghost use Rattle.std.specs.Prelude.{◌≡◌};
 ghost use Rattle.keys.specs.Bounds.{within};
 ghost use Rattle.strategies.specs.DropRange.{drop_range};
 ghost use Rattle.strategies.specs.Laws.{drop_range_lawful};
