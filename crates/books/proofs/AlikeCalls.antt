@@ -10,6 +10,7 @@ use Rattle.runs.specs.Pairing.{Twin}
 use Rattle.sheets.specs.Members.{In}
 use Rattle.sheets.specs.Tables.{memb}
 use Rattle.sheets.proofs.AlikeLevels.{some_alike}
+use Rattle.sheets.proofs.Each.{some_same}
 use Rattle.strategies.specs.declared.choice.Choice.{Choice}
 use Rattle.strategies.specs.Answer.{Chosen, Answer, nothing, chooses, declines, asked, noted}
 use Rattle.strategies.specs.Fifo.{place_of}
@@ -21,7 +22,7 @@ use Rattle.books.specs.Job.{running}
 use Rattle.books.specs.Pairing.{TwinState, twin, AnswerAlike, TwinDeed, landings, askings, lookings, bookings, closings, givings}
 use Rattle.books.specs.Promise.{RunsAlike, ListsAlike}
 use Rattle.books.specs.State.{State}
-use Rattle.books.proofs.AlikeBook.{some_same, crosses_alike, state_alike}
+use Rattle.books.proofs.AlikeBook.{crosses_alike, state_alike}
 use Rattle.books.proofs.AlikeEdits.{EndsAlike, land_alike, close_alike, give_up_alike}
 use Rattle.books.proofs.IdSheets.{front_is, listed, asked_names}
 
@@ -68,7 +69,7 @@ module _ {A B : Type 0} (cmp_a : A → A → Ordering) (cmp_b : B → B → Orde
         (cond_alike Q (eqb (length ns) 0) _ refl _ _ _ _ (twin w, refl, refl)
         (cond_alike Q (list_any (taken hidden c) ts) (list_any (taken hidden c) us) (some_alike (Twin R) (taken hidden c) (taken hidden c) hid w) _ _ _ _
         (twin w, ap (λ n. Err (AlreadyHidden n)) (place_alike (Twin R) (taken hidden c) (taken hidden c) hid w), refl)
-        (cond_alike Q (list_any (crosses cmp_a ts (job_of c)) (running slots)) (list_any (crosses cmp_b us (job_of c)) (running slots)) (some_same _ _ (running slots) (crosses_alike cmp_a cmp_b R alike w (job_of c))) _ _ _ _ (twin w, refl, refl)
+        (cond_alike Q (list_any (crosses cmp_a ts (job_of c)) (running slots)) (list_any (crosses cmp_b us (job_of c)) (running slots)) (some_same _ _ (crosses_alike cmp_a cmp_b R alike w (job_of c)) (running slots)) _ _ _ _ (twin w, refl, refl)
         (cond_alike Q (ltb (length (running slots)) 8 && leb (length hidden + length ns) 256) _ refl _ _ _ _
         (twin w, refl, front_is c.kind c ids ∙ sym (front_is c.kind c ids'))
         (twin w, refl, refl)))))

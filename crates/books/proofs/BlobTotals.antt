@@ -1,20 +1,19 @@
 -- No call changes the blob total.
-use Rattle.std.proofs.Common.{◌≡◌, ℕ, ◌+◌, ◌&&◌, eqb, ltb, leb, List, [], length, Some, None, Option, Result, Ordering, refl}
-use Rattle.std.specs.List.{list_any}
+use Rattle.std.proofs.Common.{◌≡◌, ℕ, ltb, List, [], length, Some, None, Option, Result, Ordering, refl}
 use Rattle.std.proofs.lemmas.Bool.{cond_both}
 use Rattle.refusals.specs.declared.refusal.Refusal.{Refusal}
 use Rattle.runs.specs.declared.fresh.Fresh.{Fresh}
 use Rattle.strategies.specs.Answer.{Chosen, Answer, nothing, chooses, declines}
 use Rattle.books.specs.Book as B
-use Rattle.books.specs.Book.{Question, Left, job_of, look_on, taken, book_choice, book_answer}
-use Rattle.books.specs.Booked.{span_held, crosses, state_ok}
-use Rattle.books.specs.Close as C
-use Rattle.books.specs.Close.{first_fault, bad_table, bad_outputs, closed, settled_or_full, unless_outputs, unless_tables, close_found, give_up_found}
+use Rattle.books.specs.Book.{Question, Left, job_of, look_on, book_choice, book_answer}
+use Rattle.books.specs.Booked.{span_held, state_ok}
+use Rattle.books.specs.Close.{first_fault, bad_table, bad_outputs, closed, unless_outputs, unless_tables, close_found, give_up_found}
 use Rattle.books.specs.Deed.{Deed, landing, asking, looking, booking, closing, giving, perform}
-use Rattle.books.specs.Job.{Running, running, found}
+use Rattle.books.specs.Job.{Running, found}
 use Rattle.books.specs.Land as L
 use Rattle.books.specs.Land.{has_room, fresh_ok, landed}
 use Rattle.books.specs.State.{State}
+use Rattle.books.proofs.Starting.{barred_or}
 
 module _ {K : Type 0} (cmp : K → K → Ordering) (st : State K) where
   abbrev Ends : State K × Result (Unit {0}) Refusal → Type 0
@@ -54,11 +53,7 @@ module _ {K : Type 0} (cmp : K → K → Ordering) (st : State K) where
   choice_blobs : (c : Chosen) (ids : List ℕ) → Leaves (book_choice cmp c st ids)
   choice_blobs c ids =
       let P = Leaves {R = B.Booking} in
-      cond_both (ltb (length ids) (length c.numbers)) _ _ P (λ _. refl) (λ _.
-      cond_both (eqb (length c.numbers) 0) _ _ P (λ _. refl) (λ _.
-      cond_both (list_any (taken st.hidden c) st.tables) _ _ P (λ _. refl) (λ _.
-      cond_both (list_any (crosses cmp st.tables (job_of c)) (running st.slots)) _ _ P (λ _. refl) (λ _.
-      cond_both (ltb (length (running st.slots)) 8 && leb (length st.hidden + length c.numbers) 256) _ _ P (λ _. refl) (λ _. refl)))))
+      cond_both (ltb (length ids) (length c.numbers)) _ _ P (λ _. refl) (λ _. barred_or cmp st.tables st.hidden st.slots (job_of c) P (B.refused st ids) (B.granted c st ids) (λ e _. refl) (λ _. refl))
 
   answer_blobs : (a : Answer) (ids : List ℕ) → Leaves (book_answer cmp a st ids)
   answer_blobs nothing ids = refl

@@ -1,5 +1,5 @@
 -- The test of a book says that it is sound with its sheet, and the other way round.
-use Rattle.std.proofs.Common.{◌≡◌, ℕ, ◌≤◌, true, false, not, ◌&&◌, ◌||◌, eqb, leb, List, [], ◌∷◌, length, Decides, Ordering, sym, refl, ap, ◌∙◌, inl, inr, arith}
+use Rattle.std.proofs.Common.{◌≡◌, ℕ, ◌≤◌, true, false, not, ◌&&◌, ◌||◌, eqb, leb, List, [], ◌∷◌, length, Ordering, sym, refl, ap, ◌∙◌, inl, inr, arith}
 use Rattle.std.specs.List.{list_any, list_all}
 use Rattle.std.proofs.lemmas.Bool.{true≢false, cases_Bool, both_ways, eq-eqb, eqb-true, eqb-false, le-leb, leb-true, and_parts, and_from, or_cases, or_left, or_right, not-true, not_from_false}
 use Rattle.keys.specs.KeyKind.{Laws}
@@ -199,7 +199,3 @@ module _ {K : Type 0} {cmp : K → K → Ordering} (laws : Laws cmp) (st : State
   test_from_state s =
       and_from _ _ (test_from_sound laws st.room st.standing st.blobs st.tables s.sheet)
       (test_from_booked cmp st.tables st.hidden (running st.slots) s.sheet.ordered.numbers s.book)
-
-  -- where the book keeps how many tables stand, and has eight slots, the test decides whether it is sound with its sheet
-  pub state_decides : st.standing ≡ length st.tables → length st.slots ≡ 8 → Decides (state_ok cmp st) (SoundState cmp st)
-  state_decides whole eight = (state_from_test whole eight, test_from_state)

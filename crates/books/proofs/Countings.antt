@@ -2,21 +2,16 @@
 use Rattle.std.proofs.Common.{◌≡◌, ℕ, zero, suc, ◌-◌, ◌<◌, ◌≤◌, Bool, cond, eqb, ltb, ◌⊎◌, List, ◌∷◌, map, Ordering, sym, refl, ap, ◌∙◌, inl, inr, arith}
 use Rattle.std.specs.List.{list_any}
 use Rattle.std.proofs.lemmas.Bool.{cases_Bool, cases_order, cases_lt, eq-eqb, ne_eqb, eqb-true, eqb-false, lt-ltb, le-ltb, cond-true, cond-false, and_from, and_left, and_right}
-use Rattle.keys.specs.KeyKind.{Laws}
 use Rattle.runs.specs.declared.table.Table.{Table}
 use Rattle.sheets.specs.Members.{In, here, later, Every, Pairs, none, more}
 use Rattle.sheets.specs.Recount.{counted_run, counting}
-use Rattle.sheets.specs.Sound.{Occupied, Ordered}
+use Rattle.sheets.specs.Sound.{Occupied}
 use Rattle.sheets.specs.Tables.{placed}
-use Rattle.sheets.proofs.Ascends.{Ahead, by_level, by_run, by_key, ordered_ascends}
+use Rattle.sheets.proofs.Ascends.{Ahead}
 use Rattle.sheets.proofs.Each.{in_cases}
+use Rattle.sheets.proofs.Soundness.{ahead_run}
 use Rattle.books.specs.Close.{in_run, rank, recounted}
 use Rattle.books.proofs.Recounts.{again, rank_next, some_occupied}
-
-ahead_run : {K : Type 0} (cmp : K → K → Ordering) (t u : Table K) → Ahead cmp t u → u.level ≡ 0 → t.run ≤ u.run
-ahead_run cmp t u (by_level h) e = absurd (omega arith)
-ahead_run cmp t u (by_run f h) e = omega arith
-ahead_run cmp t u (by_key f g h) e = omega arith
 
 module _ {K : Type 0} (cmp : K → K → Ordering) (all : List (Table K)) where
   -- where no run between two has a table, their ranks are one
@@ -98,6 +93,3 @@ module _ {K : Type 0} (cmp : K → K → Ordering) (all : List (Table K)) where
 -- one pass counts each run by how many runs below it have a table
 pub counting_is : {K : Type 0} (cmp : K → K → Ordering) {ts : List (Table K)} → Pairs (Ahead cmp) ts → counting 0 0 ts ≡ recounted ts
 counting_is cmp {ts} ps = counted_all cmp ts 0 0 0 ps (record { so_far = inl (refl, refl); ranked = refl; sub = λ t m. m; above = λ r l o. o; low = λ t m e. omega arith })
-
-pub ordered_counting : {K : Type 0} {cmp : K → K → Ordering} → Laws cmp → {ts : List (Table K)} → Ordered cmp ts → counting 0 0 ts ≡ recounted ts
-ordered_counting {cmp = cmp} laws s = counting_is cmp (ordered_ascends laws s)

@@ -1,30 +1,24 @@
 -- What a question leaves of the id sheet: the numbers that the returned choice names, over the front. So a reply tells it, and no call reads what the sheet held.
-use Rattle.std.proofs.Common.{◌≡◌, ℕ, ◌+◌, true, false, cond, ◌&&◌, eqb, ltb, leb, List, [], length, take, drop, Ok, Err, Ordering, sym, refl, ap}
-use Rattle.std.specs.List.{list_any}
+use Rattle.std.proofs.Common.{◌≡◌, ℕ, true, false, cond, ltb, leb, List, [], length, take, drop, Ok, Err, Ordering, sym, refl, ap}
 use Rattle.std.proofs.lemmas.List.{take_at}
 use Rattle.std.proofs.lemmas.Bool.{cond_both}
 use Rattle.refusals.specs.declared.refusal.Refusal.TheVariants.{IdsTooShort}
 use Rattle.sheets.specs.Edits.{laid}
 use Rattle.strategies.specs.declared.choice.Choice.{Choice}
 use Rattle.strategies.specs.declared.choice.Kind.{Kind}
-use Rattle.strategies.specs.declared.choice.Kind.TheVariants.{Move, Merge, Drop}
 use Rattle.strategies.specs.Answer.{Chosen, Answer, nothing, chooses, declines, as_choice, asked, noted}
 use Rattle.strategies.specs.Question.{count_in}
-use Rattle.books.specs.Book.{Question, Booking, Left, job_of, second, look_on, taken, book_choice, book_answer}
-use Rattle.books.specs.Booked.{crosses, state_ok}
+use Rattle.strategies.proofs.Asking.{count_is}
+use Rattle.books.specs.Book.{Question, Booking, Left, job_of, second, look_on, refused, granted, book_choice, book_answer}
+use Rattle.books.specs.Booked.{state_ok}
 use Rattle.books.specs.Calls.{propose, look_ahead, book}
 use Rattle.books.specs.Deed.{names}
-use Rattle.books.specs.Job.{running}
 use Rattle.books.specs.State.{State}
+use Rattle.books.proofs.Starting.{barred_or}
 
 -- ---- the numbers that a choice names
-count_is : (k : Kind) (c : Chosen) → length c.numbers ≡ count_in (as_choice k c)
-count_is Move c = refl
-count_is Merge c = refl
-count_is Drop c = refl
-
 pub front_is : (k : Kind) (c : Chosen) (ids : List ℕ) → take (count_in (as_choice k c)) (laid c.numbers ids) ≡ c.numbers
-front_is k c ids = take_at c.numbers (drop (length c.numbers) ids) (count_in (as_choice k c)) (count_is k c)
+front_is k c ids = take_at c.numbers (drop (length c.numbers) ids) (count_in (as_choice k c)) (sym (count_is k c))
 
 -- the numbers of an answer that finds so many places
 abbrev pub listed : Answer → ℕ → List ℕ
@@ -70,10 +64,7 @@ module _ {K : Type 0} (cmp : K → K → Ordering) (g : Question K) (st : State 
   choice_ids c =
       let P = Lies (λ (b : Booking). b.choice) in
       cond_both (ltb (length ids) (length c.numbers)) _ _ P (λ _. refl) (λ _.
-      cond_both (eqb (length c.numbers) 0) _ _ P (λ _. refl) (λ _.
-      cond_both (list_any (taken st.hidden c) st.tables) _ _ P (λ _. refl) (λ _.
-      cond_both (list_any (crosses cmp st.tables (job_of c)) (running st.slots)) _ _ P (λ _. refl) (λ _.
-      cond_both (ltb (length (running st.slots)) 8 && leb (length st.hidden + length c.numbers) 256) _ _ P (λ _. ap (λ ns. laid ns ids) (sym (front_is c.kind c ids))) (λ _. refl)))))
+      barred_or cmp st.tables st.hidden st.slots (job_of c) P (refused st ids) (granted c st ids) (λ e _. refl) (λ _. ap (λ ns. laid ns ids) (sym (front_is c.kind c ids))))
 
   book_answer_ids : (a : Answer) → Lies (λ b. b.choice) (book_answer cmp a st ids)
   book_answer_ids nothing = refl

@@ -9,7 +9,7 @@ use Rattle.sheets.specs.Sound.{Proper}
 use Rattle.sheets.specs.Tables.{sooner, insert, inserts}
 use Rattle.sheets.proofs.Ascends.{Ahead, by_key, ahead_chain, sooner_yes, sooner_no}
 use Rattle.sheets.proofs.Each.{none_in, in_cases}
-use Rattle.books.proofs.Outs.{Out, first, next, out_rest, out_cases, out_each, out_sum, pairs_out}
+use Rattle.books.proofs.Outs.{Out, first, next, out_in, out_rest, out_cases, out_each, out_sum, pairs_out}
 
 -- one of them is ahead of the other
 abbrev pub Beside : {K : Type 0} → (K → K → Ordering) → Table K → Table K → Type 0
@@ -41,6 +41,11 @@ module _ {K : Type 0} (cmp : K → K → Ordering) where
   pub inserts_old : (y : Table K) (ts new : List (Table K)) → In y ts → In y (inserts cmp ts new)
   inserts_old y ts [] m = m
   inserts_old y ts (a ∷ r) m = inserts_old y (insert cmp a ts) r (out_rest (insert_out a ts) m)
+
+  pub inserts_new : (y : Table K) (ts new : List (Table K)) → In y new → In y (inserts cmp ts new)
+  inserts_new y ts [] m = absurd (none_in m)
+  inserts_new y ts (a ∷ r) (here e) = inserts_old y (insert cmp a ts) r (subst (λ x. In x (insert cmp a ts)) (sym e) (out_in (insert_out a ts)))
+  inserts_new y ts (a ∷ r) (later m) = inserts_new y (insert cmp a ts) r m
 
   pub inserts_pairs : (R : Table K → Table K → Type 0) → ((x y : Table K) → R x y → R y x) → (ts : List (Table K)) {new : List (Table K)} → Pairs R new → Pairs R ts → ((a t : Table K) → In a new → In t ts → R a t) → Pairs R (inserts cmp ts new)
   inserts_pairs R turn ts none ps f = ps

@@ -4,8 +4,7 @@ use Rattle.std.proofs.lemmas.Bool.{cases_lt}
 use Rattle.runs.specs.declared.table.Table.{Table}
 use Rattle.sheets.specs.Members.{In, here, later, Every, Pairs}
 use Rattle.sheets.specs.Tables.{memb}
-use Rattle.sheets.proofs.Each.{in_cases, in_memb, memb_in, pairs_weaker}
-use Rattle.strategies.specs.Strategy.{Stands}
+use Rattle.sheets.proofs.Each.{in_cases, in_memb, pairs_weaker}
 use Rattle.books.specs.Booked.{Disjoint, Booked}
 use Rattle.books.specs.Job.{Running, smallest, job_number}
 
@@ -38,10 +37,6 @@ number_least [] n m = elim m [ ]
 number_least (k ∷ ks) n m = smallest_least k ks n m
 
 module _ {K : Type 0} {cmp : K → K → Ordering} {ts : List (Table K)} {hidden : List ℕ} {jobs : List Running} (b : Booked cmp ts hidden jobs) where
-  -- a table of a running job stands
-  pub job_stands : (j : Running) → In j jobs → Every (Stands ts) j.numbers
-  job_stands j m n i = b.stands n (memb_in n hidden (b.hides j m n i))
-
   -- no two running jobs are known by one number
   pub jobs_differ : Pairs (λ j k. job_number j.numbers ≡ job_number k.numbers → ⊥) jobs
   jobs_differ = pairs_weaker Disjoint _

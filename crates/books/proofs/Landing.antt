@@ -1,7 +1,7 @@
 -- A landing keeps book and sheet sound.
 use Rattle.std.proofs.Common.{◌≡◌, ℕ, suc, ◌-◌, ◌^◌, ◌<◌, ◌≤◌, max, Bool, true, false, cond, eqb, ◌⊎◌, List, [], ◌∷◌, length, Ordering, sym, refl, ap, ◌∙◌, subst, inl, inr, arith}
 use Rattle.std.specs.List.{list_any}
-use Rattle.std.proofs.lemmas.Bool.{true≢false, cases_lt, cases_order, eq-eqb, eqb-true, eqb-false, and_cases}
+use Rattle.std.proofs.lemmas.Bool.{true≢false, cases_lt, cases_order, eq-eqb, eqb-true, and_cases}
 use Rattle.keys.specs.KeyKind.{Laws}
 use Rattle.keys.specs.KeyRange.{meets}
 use Rattle.runs.specs.declared.fresh.Fresh.{Fresh}
@@ -12,7 +12,8 @@ use Rattle.sheets.specs.Sound.{Differ, Occupied, Counted, Proper, Sound}
 use Rattle.runs.specs.Fresh.{settled}
 use Rattle.sheets.specs.Tables.{named}
 use Rattle.sheets.proofs.Ascends.{Ahead, by_level, by_run, ordered_ascends, apart_from, order_from}
-use Rattle.sheets.proofs.Each.{none_in, in_cases, none_some, memb_in}
+use Rattle.sheets.proofs.Each.{none_some, memb_in}
+use Rattle.sheets.proofs.Levels.{runs_above}
 use Rattle.books.specs.Booked.{Booked}
 use Rattle.books.specs.Job.{Running}
 use Rattle.books.specs.Land.{bars, landing_run, landed}
@@ -25,16 +26,7 @@ use Rattle.books.proofs.SpanBounds.{unmet_from}
 
 -- ---- how many runs level 0 has
 module _ {K : Type 0} where
-  -- more than any run of it
-  pub runs_above : (ts : List (Table K)) (t : Table K) → In t ts → t.level ≡ 0 → t.run < runs ts
-  runs_above [] t m e = absurd (none_in m)
-  runs_above (u ∷ us) t m e =
-      elim (in_level 0 u) as (λ b. in_level 0 u ≡ b → t.run < cond b (max (suc u.run) (runs us)) (runs us)) [
-        | true ↦ λ z. elim (in_cases m) [ inl q ↦ omega (arith, ap (λ (x : Table K). x.run) q) | inr n ↦ omega (arith, runs_above us t n e) ]
-        | false ↦ λ z. elim (in_cases m) [ inl q ↦ absurd (eqb-false u.level 0 z (sym (ap (λ (x : Table K). x.level) q) ∙ e)) | inr n ↦ runs_above us t n e ]
-      ] refl
-
-  -- and the last run has a table
+  -- the last run has a table
   pub runs_top : (ts : List (Table K)) → (runs ts ≡ 0) ⊎ ((t : Table K) × In t ts × (t.level ≡ 0) × (suc t.run ≡ runs ts))
   runs_top [] = inl refl
   runs_top (u ∷ us) =

@@ -1,7 +1,6 @@
 pub mod AlikeBook
 pub mod AlikeCalls
 pub mod AlikeEdits
-pub mod BeforeEdits
 pub mod BlobTotals
 pub mod Booking
 pub mod Books
@@ -15,6 +14,7 @@ pub mod JobNumbers
 pub mod Keeping
 pub mod Landing
 pub mod Layouts
+pub mod Leaving
 pub mod Looking
 pub mod Outputs
 pub mod Outs
@@ -22,4 +22,5 @@ pub mod Recounts
 pub mod Rooms
 pub mod Slots
 pub mod SpanBounds
+pub mod Starting
 pub mod Steps

@@ -1,5 +1,5 @@
 -- Numbers that stand, each once, are no more than the tables: so looking ahead hides at most 1,024.
-use Rattle.std.proofs.Common.{◌≡◌, ℕ, ◌≤◌, List, ◌∷◌, length, Ordering, sym, refl, subst, inl, inr, arith}
+use Rattle.std.proofs.Common.{◌≡◌, ℕ, ◌≤◌, List, length, Ordering, sym, refl, subst, inl, inr, arith}
 use Rattle.std.proofs.lemmas.List.{length-map}
 use Rattle.runs.specs.declared.table.Table.{Table}
 use Rattle.sheets.specs.HiddenSet.{hiding}
@@ -8,21 +8,16 @@ use Rattle.sheets.specs.Members.{In, here, later, Every, Pairs, none, more}
 use Rattle.sheets.specs.Sound.{Sound}
 use Rattle.sheets.proofs.Each.{memb_in}
 use Rattle.strategies.specs.Answer.{Chosen, Answer, nothing, chooses, declines}
-use Rattle.strategies.specs.Strategy.{Stands, Lawful, LawfulAnswer}
-use Rattle.books.specs.Book.{ahead_of}
+use Rattle.strategies.specs.Strategy.{Stands, Lawful, LawfulAnswer, Law}
+use Rattle.books.specs.Book.{Question, ahead_of}
 use Rattle.books.specs.Booked.{SoundState}
-use Rattle.books.specs.Promise.{LooksWithin}
 use Rattle.books.specs.State.{State}
 use Rattle.books.proofs.Booking.{in_hiding, hiding_once}
 use Rattle.books.proofs.BookTests.{stands_to}
-use Rattle.books.proofs.Outs.{Out, first, next, out_cases, out_length}
+use Rattle.books.proofs.Outs.{in_out, out_cases, out_length}
 
 -- ---- different members of a list are no more than the list is long
 module _ {X : Type 0} where
-  in_out : {x : X} {xs : List X} → In x xs → (ys : List X) × Out x xs ys
-  in_out {x} (here {y} {ys} e) = subst (λ z. (zs : List X) × Out x (z ∷ ys) zs) e (ys, first)
-  in_out (later {y} m) = let w = in_out m in (y ∷ w.0, next w.1)
-
   different_few : {xs ys : List X} → Pairs (λ x y. x ≡ y → ⊥) xs → Every (λ x. In x ys) xs → length xs ≤ length ys
   different_few none f = omega arith
   different_few {ys = ys} (more {x} {xs} h ps) f =
@@ -51,5 +46,6 @@ module _ {K : Type 0} {cmp : K → K → Ordering} (st : State K) (s : SoundStat
   ahead_few (chooses c) law = hiding_few c law
   ahead_few (declines d) law = omega (arith, s.book.few.0)
 
-pub looks_within : {K : Type 0} (cmp : K → K → Ordering) → LooksWithin cmp
+-- in every sound state, for every question that keeps the law, looking ahead hides at most 1,024 numbers in all
+pub looks_within : {K : Type 0} (cmp : K → K → Ordering) (g : Question K) (st : State K) → Law cmp g → SoundState cmp st → length (ahead_of st.hidden (g st.tables st.hidden)) ≤ 1024
 looks_within cmp g st law s = ahead_few st s (g st.tables st.hidden) (law st.room st.blobs st.tables st.hidden (sheet_whole st s))

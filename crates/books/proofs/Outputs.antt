@@ -6,7 +6,7 @@ use Rattle.std.proofs.lemmas.Bool.{cases_Bool, both_ways, leb-true, and_parts, a
 use Rattle.keys.specs.declared.key_range.KeyRange.{KeyRange}
 use Rattle.keys.specs.KeyKind.{Laws}
 use Rattle.keys.specs.KeyRange.{meets}
-use Rattle.keys.proofs.Orders.{lt_chain, lt_le}
+use Rattle.keys.proofs.Orders.{lt_chain, lt_not, lt_le}
 use Rattle.runs.specs.declared.fresh.Fresh.{Fresh}
 use Rattle.runs.specs.declared.table.Table.{Table}
 use Rattle.sheets.specs.Level.{numbers_of}
@@ -14,7 +14,6 @@ use Rattle.sheets.specs.Members.{In, here, later, Every, Pairs, none, more}
 use Rattle.sheets.specs.Sound.{Differ, Proper, Ordered}
 use Rattle.runs.specs.Fresh.{settled}
 use Rattle.sheets.specs.Tables.{memb, named, placed}
-use Rattle.sheets.proofs.Ascends.{lt_not}
 use Rattle.sheets.proofs.Each.{none_in, in_cases, kept_pairs, map_in, in_memb}
 use Rattle.strategies.specs.declared.choice.Kind.{Kind}
 use Rattle.strategies.specs.declared.choice.Kind.TheVariants.{Move, Merge, Drop}

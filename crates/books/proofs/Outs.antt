@@ -17,6 +17,11 @@ module _ {X : Type 0} where
   out_in first = here refl
   out_in (next o) = later (out_in o)
 
+  -- any member can be taken out
+  pub in_out : {x : X} {xs : List X} → In x xs → (ys : List X) × Out x xs ys
+  in_out {x} (here {y} {ys} e) = subst (λ z. (zs : List X) × Out x (z ∷ ys) zs) e (ys, first)
+  in_out (later {y} m) = let w = in_out m in (y ∷ w.0, next w.1)
+
   pub out_rest : {x y : X} {xs ys : List X} → Out x xs ys → In y ys → In y xs
   out_rest first m = later m
   out_rest (next o) (here e) = here e
@@ -60,15 +65,6 @@ module _ {X : Type 0} where
   in_append [] ys m = inr m
   in_append (a ∷ r) ys (here e) = inl (here e)
   in_append (a ∷ r) ys (later m) = elim (in_append r ys m) [ inl k ↦ inl (later k) | inr k ↦ inr k ]
-
-  pub append_left : {x : X} (xs ys : List X) → In x xs → In x (xs ++ ys)
-  append_left [] ys m = elim m [ ]
-  append_left (a ∷ r) ys (here e) = here e
-  append_left (a ∷ r) ys (later m) = later (append_left r ys m)
-
-  pub append_right : {x : X} (xs ys : List X) → In x ys → In x (xs ++ ys)
-  append_right [] ys m = m
-  append_right (a ∷ r) ys m = later (append_right r ys m)
 
   pub pairs_append : (R : X → X → Type 0) {xs ys : List X} → Pairs R xs → Pairs R ys → ((x y : X) → In x xs → In y ys → R x y) → Pairs R (xs ++ ys)
   pairs_append R none q f = q

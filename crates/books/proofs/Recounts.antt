@@ -44,7 +44,7 @@ module _ {K : Type 0} (ts : List (Table K)) where
   pub rank_next : (r : ℕ) → Occupied r ts → rank ts (suc r) ≡ suc (rank ts r)
   rank_next r o = cond-true (list_any (in_run r) ts) (suc (rank ts r)) (rank ts r) (occupied_some r o)
 
-  rank_less : (r s : ℕ) → Occupied r ts → r < s → rank ts r < rank ts s
+  pub rank_less : (r s : ℕ) → Occupied r ts → r < s → rank ts r < rank ts s
   rank_less r s o h = omega (arith, rank_next r o, rank_up (suc r) s (omega arith))
 
   -- each number below a rank is the rank of a run that has a table

@@ -1,5 +1,5 @@
 -- Room for what a landing or a close leaves, told before anything is moved; and runs, of which there are no more than tables.
-use Rattle.std.proofs.Common.{◌≡◌, ℕ, suc, ◌+◌, ◌^◌, ◌<◌, ◌≤◌, max, true, ◌&&◌, eqb, leb, List, [], ◌∷◌, map, length, sum_by, filter, Ordering, sym, refl, ap, ◌∙◌, inl, inr, arith}
+use Rattle.std.proofs.Common.{◌≡◌, ℕ, suc, ◌+◌, ◌^◌, ◌≤◌, max, true, ◌&&◌, eqb, leb, List, [], ◌∷◌, map, length, sum_by, filter, Ordering, sym, refl, ap, ◌∙◌, inl, inr, arith}
 use Rattle.std.specs.List.{list_all}
 use Rattle.std.proofs.lemmas.List.Filters.{sum_by-filter_both, length-filter_both}
 use Rattle.std.proofs.lemmas.List.{length-map}
@@ -8,7 +8,6 @@ use Rattle.keys.specs.KeyKind.{Laws}
 use Rattle.runs.specs.declared.fresh.Fresh.{Fresh}
 use Rattle.runs.specs.declared.table.Table.{Table}
 use Rattle.sheets.specs.Level.{numbers_of, size_of, runs}
-use Rattle.sheets.specs.Members.{In}
 use Rattle.sheets.specs.Sound.{Sound, distinct, counts_on, within_limits, in_order, tables_ok}
 use Rattle.runs.specs.Fresh.{settled}
 use Rattle.sheets.specs.Tables.{named, unnamed, without, placed, inserts}
@@ -20,7 +19,6 @@ use Rattle.books.specs.Close.{recounted, arrivals, closed}
 use Rattle.books.specs.Job.{Running}
 use Rattle.books.specs.Land.{has_room, landing_run, landed}
 use Rattle.books.proofs.Insertions.{insert_sum, inserts_sum}
-use Rattle.books.proofs.Landing.{runs_above}
 use Rattle.books.proofs.Outs.{map_sum}
 use Rattle.books.proofs.Recounts.{recount_size, recount_length}
 
@@ -57,10 +55,6 @@ module _ {K : Type 0} {cmp : K → K → Ordering} (laws : Laws cmp) {room stand
       let g = and_parts (counts_on 0 ts) (distinct (numbers_of ts)) f.1 in
       let few = gapless ts 0 g.0 in
       omega arith
-
-  -- so a run's number is below the count of tables
-  pub run_few : (t : Table K) → In t ts → t.level ≡ 0 → t.run < length ts
-  run_few t m e = omega (arith, runs_above ts t m e, runs_few)
 
 -- ---- a landing
 module _ {K : Type 0} (cmp : K → K → Ordering) (f : Fresh K) (ts : List (Table K)) where

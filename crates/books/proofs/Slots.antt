@@ -1,8 +1,9 @@
 -- A job in the first free slot is beside the others, and where it ends they are left.
 use Rattle.std.proofs.Common.{◌≡◌, ℕ, suc, ◌<◌, true, false, cond, eqb, List, [], ◌∷◌, length, Some, None, Option, sym, refl, ap, subst, arith}
 use Rattle.std.proofs.lemmas.Bool.{eqb-true}
+use Rattle.sheets.specs.Members.{In}
 use Rattle.books.specs.Job.{Running, job_number, is_known, running, started, found, ended}
-use Rattle.books.proofs.Outs.{Out, first, next}
+use Rattle.books.proofs.Outs.{Out, out_in, first, next}
 
 pub started_out : (j : Running) (slots : List (Option Running)) → length (running slots) < length slots → Out j (running (started j slots)) (running slots)
 started_out j [] h = absurd (omega arith)
@@ -45,3 +46,7 @@ found_out n (Some k ∷ slots) =
 -- the same, where the slot is freed by the job's own number
 pub freed_out : (n : ℕ) (slots : List (Option Running)) (j : Running) → Found n slots (Some j) → Out j (running slots) (running (ended (job_number j.numbers) slots))
 freed_out n slots j w = subst (λ k. Out j (running slots) (running (ended k slots))) (sym w.0) w.1
+
+-- the job of a number runs
+pub found_runs : (n : ℕ) (slots : List (Option Running)) (j : Running) → found n slots ≡ Some j → In j (running slots)
+found_runs n slots j at = out_in (freed_out n slots j (subst (Found n slots) at (found_out n slots)))

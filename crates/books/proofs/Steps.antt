@@ -1,10 +1,9 @@
 -- Every call keeps book and sheet sound, and none but an unsound one answers that they are not.
-use Rattle.std.proofs.Common.{◌≡◌, ℕ, ◌+◌, ◌<◌, ◌&&◌, eqb, ltb, leb, List, [], length, Some, None, Err, Option, Result, Ordering, refl, ap, ◌∙◌, arith}
-use Rattle.std.specs.List.{list_any}
+use Rattle.std.proofs.Common.{◌≡◌, ℕ, ◌+◌, ◌<◌, ltb, leb, List, [], length, Some, None, Err, Option, Result, Ordering, refl, ap, ◌∙◌, arith}
 use Rattle.std.specs.Result.{result_err}
 use Rattle.std.proofs.lemmas.Bool.{cond_both, and_parts, leb-true, ltb-true, eqb-false}
 use Rattle.refusals.specs.declared.refusal.Refusal.{Refusal}
-use Rattle.refusals.specs.declared.refusal.Refusal.TheVariants.{NotSound, NoSuchJob, BadTable, BadOutputs, Full, IdsTooShort, NamesNoTable, AlreadyHidden, SpanTaken, BookFull}
+use Rattle.refusals.specs.declared.refusal.Refusal.TheVariants.{NotSound, NoSuchJob, BadTable, BadOutputs, Full, IdsTooShort, NamesNoTable}
 use Rattle.refusals.specs.Refusal.{number_of}
 use Rattle.keys.specs.KeyKind.{Laws}
 use Rattle.runs.specs.declared.fresh.Fresh.{Fresh}
@@ -12,11 +11,10 @@ use Rattle.sheets.proofs.Hiding.{hiding_short}
 use Rattle.strategies.specs.declared.declined.Declined.{Declined}
 use Rattle.strategies.specs.declared.declined.Declined.TheVariants.{BadSetting, ManyRuns, HiddenTable}
 use Rattle.strategies.specs.Answer.{Chosen, Answer, nothing, chooses, declines, refusal_of, asked}
-use Rattle.strategies.specs.Fifo.{place_of}
 use Rattle.strategies.specs.Strategy.{Lawful, LawfulAnswer, Law}
 use Rattle.books.specs.Book as B
-use Rattle.books.specs.Book.{Question, Left, Booking, job_of, second, look_on, taken, book_choice, book_answer}
-use Rattle.books.specs.Booked.{span_held, SoundState, crosses}
+use Rattle.books.specs.Book.{Question, Left, Booking, job_of, second, look_on, book_choice, book_answer}
+use Rattle.books.specs.Booked.{span_held, SoundState}
 use Rattle.books.specs.Close as C
 use Rattle.books.specs.Close.{first_fault, bad_table, bad_outputs, closed, settled_or_full, unless_outputs, unless_tables, close_found, give_up_found}
 use Rattle.books.specs.Job.{Running, job_number, running, found, ended}
@@ -31,6 +29,7 @@ use Rattle.books.proofs.Landing.{landed_sound, landed_booked}
 use Rattle.books.proofs.Outputs.{good_fresh}
 use Rattle.books.proofs.Outs.{Out, out_length}
 use Rattle.books.proofs.Slots.{started_out, started_length, ended_length, Found, found_out, freed_out}
+use Rattle.books.proofs.Starting.{barred_or}
 
 -- ---- refusals that are not the one of an unsound book
 abbrev numbered : Option Refusal → ℕ
@@ -143,24 +142,20 @@ module _ {K : Type 0} {cmp : K → K → Ordering} (laws : Laws cmp) (st : State
   choice_keeps c law ids =
       let P = Leaves {R = Booking} in
       cond_both (ltb (length ids) (length c.numbers)) _ _ P (λ _. (s, unlike IdsTooShort (omega arith))) (λ _.
-      cond_both (eqb (length c.numbers) 0) _ _ P (λ _. (s, unlike NamesNoTable (omega arith))) (λ full.
-      cond_both (list_any (taken st.hidden c) st.tables) _ _ P (λ _. (s, unlike (AlreadyHidden (place_of (taken st.hidden c) st.tables)) (omega arith))) (λ free.
-      cond_both (list_any (crosses cmp st.tables (job_of c)) (running st.slots)) _ _ P (λ _. (s, unlike SpanTaken (omega arith))) (λ clear.
-      cond_both (ltb (length (running st.slots)) 8 && leb (length st.hidden + length c.numbers) 256) _ _ P
-      (λ fits.
-      let p = and_parts (ltb (length (running st.slots)) 8) (leb (length st.hidden + length c.numbers) 256) fits in
+      barred_or cmp st.tables st.hidden st.slots (job_of c) P (B.refused st ids) (B.granted c st ids) (λ e h. (s, unlike e h))
+      (λ may.
+      let p = and_parts (ltb (length (running st.slots)) 8) (leb (length st.hidden + length c.numbers) 256) may.fits in
       let few = ltb-true (length (running st.slots)) 8 p.0 in
       let o = started_out (job_of c) st.slots (omega (arith, s.eight)) in
-      let some_named : length c.numbers ≡ 0 → ⊥ = eqb-false (length c.numbers) 0 full in (
+      let some_named : length c.numbers ≡ 0 → ⊥ = eqb-false (length c.numbers) 0 may.some in (
         record {
           whole = s.whole;
           eight = started_length (job_of c) st.slots ∙ s.eight;
           sheet = s.sheet;
-          book = booking_keeps laws s.book o law (omega arith) free clear (omega (arith, out_length o)) (omega (arith, hiding_short st.hidden c.numbers, leb-true _ _ p.1));
+          book = booking_keeps laws s.book o law (omega arith) may.free may.clear (omega (arith, out_length o)) (omega (arith, hiding_short st.hidden c.numbers, leb-true _ _ p.1));
         },
         granted,
-      ))
-      (λ _. (s, unlike BookFull (omega arith)))))))
+      )))
 
   book_at : (a : Answer) → LawfulAnswer cmp st.tables a → (ids : List ℕ) → Leaves (book_answer cmp a st ids)
   book_at nothing law ids = (s, unlike NamesNoTable (omega arith))

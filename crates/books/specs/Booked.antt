@@ -51,8 +51,8 @@ module _ {K : Type 0} (cmp : K → K → Ordering) where
     abbrev pub UnmetHeld : Running → Type 0
     UnmetHeld j = (t u : Table K) → In t (held j ts) → In u (held j ts) → Differ t u → meets cmp t.range u.range ≡ false
 
-  -- Each hidden number stands and belongs to exactly one running job, each job has a table and its tables are hidden;
-  -- a move or merge has a destination from 1 to 6, and its span meets nothing there but its own; tables of a move do not meet.
+  -- At most 256 numbers are hidden and 8 jobs run; each hidden number stands and belongs to exactly one running job, each job has a table and its tables are hidden;
+  -- a move or merge has a destination from 1 to 6, and its span meets nothing there but its own, nor the span of another that goes there; tables of a move do not meet.
   pub record Booked (ts : List (Table K)) (hidden : List ℕ) (jobs : List Running) : Type 0 where
     pub few : (length hidden ≤ 256) × (length jobs ≤ 8)
     pub once : Pairs (λ m n. m ≢ n) hidden
@@ -96,6 +96,7 @@ module _ {K : Type 0} (cmp : K → K → Ordering) where
   abbrev pub jobs_apart : List (Table K) → Running → Running → Bool
   jobs_apart ts j k = not (list_any (λ n. memb n k.numbers) j.numbers) && not (crosses ts j k)
 
+  -- hidden numbers and running jobs are sound with the standing tables
   abbrev pub book_ok : List (Table K) → List ℕ → List Running → Bool
   book_ok ts hidden jobs =
       (nat_le (length hidden) 256 && nat_le (length jobs) 8)

@@ -99,6 +99,7 @@ module _ {K : Type 0} (cmp : K → K → Ordering) where
   unless_tables None j outs st = unless_outputs (bad_outputs j.kind (span_held cmp st.tables j) outs) j outs st
   unless_tables (Some place) j outs st = (st, Err (BadTable place))
 
+  -- closing a job, if there is one
   abbrev pub close_found : Option Running → List (Fresh K) → State K → State K × Result (Unit {0}) Refusal
   close_found None outs st = (st, Err NoSuchJob)
   close_found (Some j) outs st = unless_tables (first_fault (bad_table st.tables) [] outs) j outs st
@@ -107,6 +108,7 @@ module _ {K : Type 0} (cmp : K → K → Ordering) where
   abbrev pub close : ℕ → List (Fresh K) → State K → State K × Result (Unit {0}) Refusal
   close n outs st = close_found (found n st.slots) outs st
 
+  -- giving a job up, if there is one
   abbrev pub give_up_found : Option Running → State K → State K × Result (Unit {0}) Refusal
   give_up_found None st = (st, Err NoSuchJob)
   give_up_found (Some j) st = (freed j st, Ok tt)

@@ -5,6 +5,7 @@ pub mod Close
 pub mod Deed
 pub mod Job
 pub mod Land
+pub mod Leaves
 pub mod Pairing
 pub mod Promise
 pub mod State

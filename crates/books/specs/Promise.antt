@@ -1,5 +1,5 @@
 -- What is promised of every list of calls.
-use Rattle.std.specs.Prelude.{◌≡◌, ◌≤◌, false, List, [], ◌∷◌, length, Some, ◌≢◌}
+use Rattle.std.specs.Prelude.{◌≡◌, ◌≤◌, false, List, [], ◌∷◌, Some, ◌≢◌}
 use Rattle.std.specs.declared.cmp.Ordering.{Ordering}
 use Rattle.refusals.specs.declared.refusal.Refusal.TheVariants.{NotSound}
 use Rattle.keys.specs.KeyRange.{meets}
@@ -7,8 +7,6 @@ use Rattle.keys.specs.Pairing.{Both, CompareAlike}
 use Rattle.runs.specs.declared.table.Table.{Table}
 use Rattle.sheets.specs.Members.{In, Pairs}
 use Rattle.sheets.specs.Sound.{Differ}
-use Rattle.strategies.specs.Strategy.{Law}
-use Rattle.books.specs.Book.{Question, ahead_of}
 use Rattle.books.specs.Booked.{Disjoint, SoundState}
 use Rattle.books.specs.Deed.{Deed, refusal_in, perform, after, said, Keep}
 use Rattle.books.specs.Job.{running}
@@ -31,10 +29,6 @@ module _ {K : Type 0} (cmp : K → K → Ordering) where
   -- for every list of calls whose questions keep the law, from every sound state
   abbrev pub StaysSound : Type 0
   StaysSound = (ds : List (Deed K)) (st : State K) → Keep cmp ds → SoundState cmp st → Always ds st
-
-  -- in every sound state, for every question that keeps the law, looking ahead hides at most 1,024 numbers in all
-  abbrev pub LooksWithin : Type 0
-  LooksWithin = (g : Question K) (st : State K) → Law cmp g → SoundState cmp st → length (ahead_of st.hidden (g st.tables st.hidden)) ≤ 1024
 
 -- ---- alike
 module _ {A B : Type 0} (cmp_a : A → A → Ordering) (cmp_b : B → B → Ordering) where

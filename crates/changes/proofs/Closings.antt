@@ -1,5 +1,5 @@
 -- Closing a job in the lent sheet is closing it on every book with that sheet.
-use Rattle.std.proofs.Common.{◌≡◌, ℕ, ◌≤◌, Bool, true, false, cond, List, [], ◌∷◌, length, take, Some, None, Ok, Err, Option, Result, Ordering, sym, refl, ap, ◌∙◌, subst, arith}
+use Rattle.std.proofs.Common.{◌≡◌, ℕ, ◌≤◌, Bool, true, false, cond, List, [], length, take, Some, None, Ok, Err, Option, Result, Ordering, sym, refl, ap, ◌∙◌, arith}
 use Rattle.keys.specs.KeyKind.{Laws}
 use Rattle.refusals.specs.declared.refusal.Refusal.{Refusal}
 use Rattle.refusals.specs.declared.refusal.Refusal.TheVariants.{BadTable, BadOutputs, Full}
@@ -7,7 +7,6 @@ use Rattle.runs.specs.declared.fresh.Fresh.{Fresh}
 use Rattle.runs.specs.declared.table.Table.{Table}
 use Rattle.sheets.specs.Edits.{laid}
 use Rattle.sheets.specs.HiddenSet.{showing}
-use Rattle.sheets.specs.Members.{In, here, later}
 use Rattle.sheets.specs.Recount.{counting}
 use Rattle.sheets.proofs.Laid.{take_laid, relaid}
 use Rattle.edits.proofs.Recounting.{length_counting}
@@ -17,15 +16,11 @@ use Rattle.books.specs.Job.{Running, job_number, ended}
 use Rattle.books.specs.Land.{has_room}
 use Rattle.books.specs.State.{State, with_tables}
 use Rattle.books.proofs.ClosedJobs.{swap_counting, room_parts}
-use Rattle.books.proofs.Outs.{Out, first, next}
+use Rattle.books.proofs.Outs.{in_out}
 use Rattle.books.proofs.Recounts.{recount_length}
 use Rattle.changes.specs.Changes.{on_sheet, SoundOn}
 use Rattle.changes.specs.Close.{swapped, Runs, Says, Closes}
 use Rattle.changes.proofs.Landings.{stands_on}
-
-in_out : {X : Type 0} {x : X} {xs : List X} → In x xs → (ys : List X) × Out x xs ys
-in_out (here {y} {ys} e) = (ys, subst (λ z. Out z (y ∷ ys) ys) (sym e) first)
-in_out (later {y} m) = let w = in_out m in (y ∷ w.0, next w.1)
 
 -- ---- the tests
 module _ {K : Type 0} (cmp : K → K → Ordering) (j : Running) (outs : List (Fresh K)) (s : List (Table K)) (n : ℕ) where

@@ -9,6 +9,7 @@ use Rattle.refusals.specs.declared.refusal.Refusal.{Refusal}
 use Rattle.refusals.specs.declared.refusal.Refusal.TheVariants.{NamesNoTable, AlreadyHidden, SpanTaken, BookFull}
 use Rattle.runs.specs.declared.table.Table.{Table}
 use Rattle.sheets.specs.Tables.{named}
+use Rattle.sheets.proofs.Each.{some_same}
 use Rattle.strategies.specs.Fifo.{place_of}
 use Rattle.strategies.specs.Strategy.{spans_meet}
 use Rattle.strategies.proofs.FifoSteps.{position_is, inside_is, found, unfound}
@@ -18,11 +19,11 @@ use Rattle.slots.specs.declared.job.Job.{Job}
 use Rattle.slots.specs.declared.job.Task.{Task}
 use Rattle.slots.specs.declared.job.Task.TheVariants.{Move, Merge, Drop}
 use Rattle.slots.specs.Admitted.{is_free, admitted}
-use Rattle.slots.specs.Sound.{runs_one, level_in, same_level, span_in}
+use Rattle.slots.specs.Sound.{level_in, same_level, span_in}
 use Rattle.slots.specs.View.{job_over, slot}
 use Rattle.slots.proofs.Apart.{no_level, crosses_slot}
-use Rattle.slots.proofs.Running.{running_few, some_running}
-use Rattle.slots.proofs.Tests.{some_same, some_map}
+use Rattle.slots.proofs.Running.{running_few, runs_one, some_running}
+use Rattle.slots.proofs.Tests.{some_map}
 
 -- ---- the first free slot
 place_map : {X Y : Type 0} (p : Y → Bool) (f : X → Y) (xs : List X) → place_of (λ x. p (f x)) xs ≡ place_of p (map f xs)

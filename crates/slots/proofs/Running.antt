@@ -8,12 +8,18 @@ use Rattle.runs.specs.declared.table.Table.{Table}
 use Rattle.sheets.specs.Level.{numbers_of}
 use Rattle.sheets.specs.Sound.{distinct}
 use Rattle.sheets.specs.Tables.{memb}
+use Rattle.sheets.proofs.Each.{some_same, all_same}
 use Rattle.books.specs.Booked.{pairs_by, job_ok, jobs_apart, book_ok}
 use Rattle.books.specs.Job.{Running, running}
 use Rattle.slots.specs.declared.job.Job.{Job}
-use Rattle.slots.specs.Sound.{taken, owned, free_or, runs_one, free_or_so}
+use Rattle.slots.specs.Sound.{taken, owned, free_or, free_or_so}
 use Rattle.slots.specs.View.{slot, numbers_in}
-use Rattle.slots.proofs.Tests.{some_same, all_same, some_map}
+use Rattle.slots.proofs.Tests.{some_map}
+
+-- a slot has a job, and it passes
+abbrev pub runs_one : (Running → Bool) → Option Running → Bool
+runs_one p None = false
+runs_one p (Some j) = p j
 
 pub some_running : (p : Running → Bool) (ss : List (Option Running)) → list_any p (running ss) ≡ list_any (runs_one p) ss
 some_running p [] = refl

@@ -18,11 +18,6 @@ abbrev pub free_or : (Running → Bool) → Option Running → Bool
 free_or p None = true
 free_or p (Some j) = p j
 
--- a slot has a job, and it passes
-abbrev pub runs_one : (Running → Bool) → Option Running → Bool
-runs_one p None = false
-runs_one p (Some j) = p j
-
 -- the jobs of two slots, if any, stand so
 abbrev pub free_or_so : (Running → Running → Bool) → Option Running → Option Running → Bool
 free_or_so r None t = true

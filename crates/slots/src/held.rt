@@ -1,5 +1,5 @@
 //! The tables of a job among those that stand. What is `pub(crate)` here serves the book, which has tested the sheet: hence the `requires`.
-ghost use Rattle.std.specs.Prelude.{◌≡◌, ◌≤◌, not, length, filter};
+ghost use Rattle.std.specs.Prelude.{◌≡◌, not, filter};
 ghost use Rattle.std.specs.List.{list_all};
 ghost use Rattle.keys.specs.KeyRange.{meets};
 ghost use Rattle.picks.specs.Movable.{meets_span};

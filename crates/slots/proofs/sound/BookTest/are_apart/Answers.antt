@@ -7,4 +7,4 @@ use Rattle.slots.proofs.sound.BookTest.are_apart.Goals as goal
 pub returns : goal.returns
 returns g c =
     let p = named c.args.numbers.now in
-    c.marked_are_apart.ensures ∙ ap (unmet g.K.KeyKind.ranks) (marked_by p c.marks_of-marks.result c.args.self.now.tables.now (c.marks_of-marks.ensures p (λ t b h. search rules)))
+    c.marked_are_apart.ensures ∙ ap (unmet g.K.KeyKind.ranks) (marked_by p c.marks_of-marks.result c.args.self.now.tables.now (c.marks_of-marks.ensures.marks p (λ t b h. search rules)))

@@ -6,7 +6,7 @@ use Rattle.slots.specs.declared.job.Job.{Job}
 use Rattle.slots.specs.Sound.{apart_by}
 use Rattle.slots.specs.View.{slot}
 use Rattle.slots.proofs.Apart.{apart_slots}
-use Rattle.slots.proofs.Tests.{all_same}
+use Rattle.sheets.proofs.Each.{all_same}
 use Rattle.slots.proofs.sound.BookTest.is_apart.Goals as goal
 
 pub returns : goal.returns
