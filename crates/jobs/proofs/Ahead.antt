@@ -5,7 +5,7 @@ use Rattle.refusals.specs.declared.refusal.Refusal.TheVariants.{NotSound}
 use Rattle.strategies.specs.declared.choice.Choice.{Choice}
 use Rattle.strategies.specs.Answer.{Answer, nothing, chooses, declines, asked, noted}
 use Rattle.books.specs.Book as Ask
-use Rattle.books.specs.Book.{Question, Left, ahead_of, second, look_on}
+use Rattle.books.specs.Book.{Question, ahead_of, second, look_on}
 use Rattle.books.specs.Booked.{state_ok}
 use Rattle.books.specs.Calls.{look_ahead}
 use Rattle.books.specs.State.{State}

@@ -13,7 +13,7 @@ use Rattle.strategies.specs.Answer.{Chosen, Answer, nothing, chooses, declines, 
 use Rattle.strategies.specs.Fifo.{place_of}
 use Rattle.strategies.specs.Question.{count_in}
 use Rattle.strategies.proofs.Asking.{count_is}
-use Rattle.books.specs.Book.{Question, Booking, Left, job_of, taken, book_choice, book_answer}
+use Rattle.books.specs.Book.{Question, Booking, Left, job_of, granted, taken, book_choice, book_answer}
 use Rattle.books.specs.Booked.{crosses, state_ok}
 use Rattle.books.specs.Calls.{book}
 use Rattle.books.specs.Job.{Running, job_number, running, started}
@@ -58,12 +58,7 @@ booking_is s i c t = rw (s, i, c, t) refl
 module _ {K : Type 0} (cmp : K → K → Ordering) (st : State K) (ids : List ℕ) where
   -- what was booked, or why not
   abbrev told : Chosen → Result ℕ Refusal → Left K Booking
-  told c (Ok place) =
-      record {
-        state = with_jobs st (hiding st.hidden c.numbers) (started (job_of c) st.slots);
-        ids = laid c.numbers ids;
-        result = Ok (record { choice = as_choice c.kind c; ticket = job_number c.numbers });
-      }
+  told c (Ok place) = granted c st ids
   told c (Err e) = left st ids (Err e)
 
   -- a choice is booked where its job is admitted

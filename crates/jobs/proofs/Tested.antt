@@ -9,8 +9,8 @@ use Rattle.sheets.specs.Sound.{Sound, sheet_ok}
 use Rattle.sheets.proofs.Soundness.{sound_from_test}
 use Rattle.books.specs.Booked.{SoundState, book_ok, state_ok}
 use Rattle.books.specs.Job.{Running, running, found}
-use Rattle.books.proofs.BeforeEdits.{found_runs}
 use Rattle.books.proofs.BookTests.{state_from_test, test_from_state}
+use Rattle.books.proofs.Slots.{found_runs}
 use Rattle.changes.specs.Changes.{SoundOn}
 use Rattle.changes.specs.Close.{Runs}
 use Rattle.slots.specs.View.{slot}
@@ -53,8 +53,7 @@ module _ {K : Type 0} {cmp : K → K → Ordering} (laws : Laws cmp) (book : Job
   -- the job that was found runs
   pub found_job : (n : ℕ) (j : Running) → length book.jobs ≡ 8 → found n (map slot book.jobs) ≡ Some j → Runs cmp (take book.standing sheet) j
   found_job n j eight e =
-      let s = sound_state eight in
-      record { hidden = book.hidden; jobs = running (map slot book.jobs); book = s.book; runs = found_runs laws (state book sheet) s n j e }
+      record { hidden = book.hidden; jobs = running (map slot book.jobs); book = (sound_state eight).book; runs = found_runs n (map slot book.jobs) j e }
 
 -- the test of a book with eight slots decides whether book and sheet are sound
 pub state_tested : {K : Type 0} {cmp : K → K → Ordering} → Laws cmp → (book : JobBook) (sheet : List (Table K)) → length book.jobs ≡ 8 → Decides (state_ok cmp (state book sheet)) (SoundState cmp (state book sheet))

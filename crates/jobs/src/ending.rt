@@ -6,6 +6,7 @@ ghost use Rattle.books.specs.Booked.{state_ok};
 ghost use Rattle.books.specs.Calls.{close, give_up};
 ghost use Rattle.books.specs.Close.{close as close_job};
 ghost use Rattle.books.specs.Job.{is_known};
+ghost use Rattle.books.specs.Leaves.{ClosesInWords};
 ghost use Rattle.changes.specs.Close.{job};
 ghost use Rattle.slots.specs.View.{job_over, slot};
 ghost use Rattle.jobs.specs.Ending.{said, HandsBack};
@@ -39,6 +40,7 @@ impl JobBook {
         ensures answer { (state self.new sheet.new, said result) ≡ close K.ranks ticket.number outputs.now (state self.old sheet.old) }
         ensures ticket { HandsBack ticket result }
         ensures rest { sheet.new ≡ laid (state self.new sheet.new).tables sheet.old }
+        ensures words { ClosesInWords K.ranks }
     {
         match self.close_numbered(sheet, ticket.number(), outputs) {
             Ok(()) => {

@@ -1,5 +1,5 @@
-//! The job book and the calls on it.
-ghost use Rattle.std.specs.Prelude.{◌≡◌, take, Decides};
+//! The job book: how it is opened, what it shows, and its test. The calls on it stand in the other files.
+ghost use Rattle.std.specs.Prelude.{◌≡◌, take, IfOk, Decides};
 ghost use Rattle.books.specs.Booked.{SoundState, state_ok};
 ghost use Rattle.jobs.specs.Open.{opened, open_book};
 ghost use Rattle.jobs.specs.View.{state};
@@ -28,7 +28,8 @@ impl JobBook {
         count: usize,
         blob_total: u64,
     ) -> Result<JobBook, Refusal>
-        ensures { opened sheet.now result ≡ open_book K.ranks sheet.now count blob_total }
+        ensures opens { opened sheet.now result ≡ open_book K.ranks sheet.now count blob_total }
+        ensures sound { IfOk result (λ book. SoundState K.ranks (state book sheet.now)) }
     {
         if !is_sound(sheet, count, blob_total) {
             return Err(Refusal::NotSound);

@@ -2,6 +2,7 @@
 ghost use Rattle.std.specs.Prelude.{◌≡◌};
 ghost use Rattle.sheets.specs.Edits.{laid};
 ghost use Rattle.books.specs.Calls.{land};
+ghost use Rattle.books.specs.Leaves.{LandsInWords};
 ghost use Rattle.jobs.specs.View.{state};
 
 use crate::job_book::JobBook;
@@ -20,6 +21,7 @@ impl JobBook {
     ) -> Result<(), Refusal>
         ensures answer { (state self.new sheet.new, result) ≡ land K.ranks fresh.now (state self.old sheet.old) }
         ensures rest { sheet.new ≡ laid (state self.new sheet.new).tables sheet.old }
+        ensures words { LandsInWords K.ranks }
     {
         if !self.is_sound(sheet) {
             return Err(Refusal::NotSound);

@@ -1,4 +1,5 @@
 use Rattle.std.proofs.Common.{map, sym}
+use Rattle.books.proofs.Leaving.{lands_in_words}
 use Rattle.changes.specs.Changes.{on_sheet}
 use Rattle.slots.specs.View.{slot}
 use Rattle.jobs.specs.View.{state}
@@ -19,3 +20,12 @@ returns-clause-rest g c =
     let slots = map slot book.jobs in
     let left = on_sheet c.land_table.new.sheet c.in_ok-self.field-0 book.blob_total book.hidden slots in
     laid_over _ _ _ c.in_ok-self.field-0 c.in_ok-self.ensures.sheet (landed_left cmp (state book c.args.sheet.now) left c.args.fresh.now (c.in_ok-self.ensures.answer book.blob_total book.hidden slots))
+
+pub returns-then-not-is_sound-clause-words : goal.returns-then-not-is_sound-clause-words
+returns-then-not-is_sound-clause-words g c = lands_in_words g.K.KeyKind.ranks
+
+pub returns-in_err-self-clause-words : goal.returns-in_err-self-clause-words
+returns-in_err-self-clause-words g c = lands_in_words g.K.KeyKind.ranks
+
+pub returns-clause-words : goal.returns-clause-words
+returns-clause-words g c = lands_in_words g.K.KeyKind.ranks
