@@ -7,10 +7,10 @@ use Rattle.windows.specs.SliceWindows.{from_left, growing_from, shrinking_from}
 use Rattle.picks.specs.Merge.{cheaper, cheapest_of, cost, merging, admissible}
 use Rattle.picks.specs.Movable.{first_of, movable}
 use Rattle.leveled.specs.Leveled.{score_of}
-use Rattle.layouts.specs.Layouts.{Layouts}
+use Rattle.layouts.specs.Layouts.{row, Layouts}
 
 pub layouts : Layouts
-unfolding score_of winner grown lt le of_int round units span climb size odd mul div to_unsigned movable first_of shrinking_from from_left growing_from cheaper cheapest_of admissible cost merging
+unfolding score_of winner grown lt le of_int round units span climb size odd mul div to_unsigned movable first_of shrinking_from from_left growing_from cheaper cheapest_of admissible cost merging row
 layouts =
     record {
       sound = refl;
@@ -26,6 +26,12 @@ layouts =
       moves_401 = refl;
       merges_abc = refl;
       moves_d = refl;
+      moves_1 = refl;
+      moves_2 = refl;
+      moves_3 = refl;
+      moves_4 = refl;
+      moves_5 = refl;
+      holds_6 = refl;
       limit_100 = refl;
       limit_99 = refl;
       tie = refl;
@@ -33,6 +39,8 @@ layouts =
       lives = refl;
       books_sound = refl;
       books_none = refl;
+      books_256 = refl;
+      books_257 = refl;
       names_d = refl;
       books_d = refl;
     }

@@ -1,1 +1,2 @@
 mod Layouts
+mod Promises

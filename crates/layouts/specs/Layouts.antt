@@ -1,5 +1,5 @@
 -- What the strategies answer, and a book says, on small layouts of stop keys.
-use Rattle.std.specs.Prelude.{◌≡◌, ℕ, true, List, [], ◌∷◌, length, replicate, Some, None, Ok, Err, Option}
+use Rattle.std.specs.Prelude.{◌≡◌, ℕ, zero, suc, true, List, [], ◌∷◌, length, replicate, Some, None, Ok, Err, Option}
 use Rattle.std.specs.List.{list_all}
 use Rattle.keys.specs.declared.stop_key.StopKey.{StopKey}
 use Rattle.keys.specs.StopKey.{stop_ranks}
@@ -14,7 +14,7 @@ use Rattle.strategies.specs.Answer.{Answer, nothing, chooses}
 use Rattle.strategies.specs.Fifo.{fifo}
 use Rattle.strategies.specs.Major.{major}
 use Rattle.leveled.specs.Leveled.{leveled}
-use Rattle.refusals.specs.declared.refusal.Refusal.TheVariants.{NamesNoTable, SpanTaken}
+use Rattle.refusals.specs.declared.refusal.Refusal.TheVariants.{NamesNoTable, SpanTaken, BookFull}
 use Rattle.strategies.specs.declared.choice.Choice.TheVariants as C
 use Rattle.books.specs.Booked.{state_ok}
 use Rattle.books.specs.Calls.{propose, book}
@@ -84,6 +84,15 @@ two = aged 8 0 1 3 ∷ aged 2 2 3 3 ∷ []
 abbrev pub one : (created : ℕ) → List (Table StopKey)
 one created = aged 1 0 1 created ∷ []
 
+-- one table of 4,001 bytes in a level
+abbrev pub deep : (level : ℕ) → List (Table StopKey)
+deep level = table 1 level 0 5 9 4_001 ∷ []
+
+-- so many tables of one byte in level 1, each at the stop of its number, which are counted from this one on
+unfoldable pub row : (from count : ℕ) → List (Table StopKey)
+row from zero = []
+row from (suc n) = table from 1 0 from from 1 ∷ row (suc from) n
+
 -- ---- the books
 -- a book on a sheet of 1,024 places, with these hidden and these jobs
 abbrev pub book_on : List (Table StopKey) → List ℕ → List (Option Running) → State StopKey
@@ -97,10 +106,16 @@ merging_abc = book_on abcd (1 ∷ 2 ∷ 3 ∷ []) (Some (record { kind = Merge; 
 abbrev pub idle : State StopKey
 idle = book_on [] [] (replicate 8 None)
 
+-- no job, and so many tables
+abbrev pub busy : (count : ℕ) → State StopKey
+busy count = book_on (row 1 count) [] (replicate 8 None)
+
 -- an id sheet of four places
 abbrev pub four : List ℕ
 four = replicate 4 0
 
+-- ---- what is said of them
+-- each an equation, shown by computing it
 pub record Layouts : Type 0 where
   -- all sheets are sound
   pub sound : list_all (tables_ok stop_ranks) ([] ∷ from_5 ∷ from_0 ∷ from_both ∷ with_400 ∷ with_401 ∷ abc ∷ abcd ∷ three ∷ two ∷ one 7 ∷ one 8 ∷ []) ≡ true
@@ -122,6 +137,14 @@ pub record Layouts : Type 0 where
   pub merges_abc : asks abc [] ≡ takes Merge (1 ∷ 2 ∷ 3 ∷ []) 610 2 2
   -- these three hidden: d moves
   pub moves_d : asks abcd (1 ∷ 2 ∷ 3 ∷ []) ≡ takes Move (4 ∷ []) 500 2 2
+  -- one table alone in a level, of more bytes than the next level up may have: L1 is the level above it, but not above level 1, and all moves down
+  pub moves_1 : asks (deep 1) [] ≡ takes Move (1 ∷ []) 4_001 2 2
+  pub moves_2 : asks (deep 2) [] ≡ takes Move (1 ∷ []) 4_001 3 3
+  pub moves_3 : asks (deep 3) [] ≡ takes Move (1 ∷ []) 4_001 4 3
+  pub moves_4 : asks (deep 4) [] ≡ takes Move (1 ∷ []) 4_001 5 3
+  pub moves_5 : asks (deep 5) [] ≡ takes Move (1 ∷ []) 4_001 6 3
+  -- nothing is below level 6
+  pub holds_6 : asks (deep 6) [] ≡ nothing
   -- FIFO with no time to live: a limit of 100 drops the oldest, 99 the next too
   pub limit_100 : fifo 100 0 0 9 three [] ≡ drops (2 ∷ []) 50
   pub limit_99 : fifo 99 0 0 9 three [] ≡ drops (2 ∷ 3 ∷ []) 100
@@ -134,6 +157,12 @@ pub record Layouts : Type 0 where
   pub books_sound : list_all (state_ok stop_ranks) (idle ∷ merging_abc ∷ []) ≡ true
   -- booking major's empty merge is refused: it names no table
   pub books_none : (book stop_ranks (λ ts hs. major 100 ts hs) idle four).result ≡ Err NamesNoTable
+  -- 256 tables may be hidden, and no more
+  pub books_256 : (book stop_ranks (λ ts hs. major 100 ts hs) (busy 256) (replicate 256 0)).result ≡ Ok (record {
+    choice = C.Merge (record { tables = record { count = 256; bytes = 256 }; dest_level = 6; canonical_level = 6; target_size = 100 });
+    ticket = 1;
+  })
+  pub books_257 : (book stop_ranks (λ ts hs. major 100 ts hs) (busy 257) (replicate 257 0)).result ≡ Err BookFull
   -- while the merge of a, b and c runs, d is named for a move to level 2, and booking it is refused: its span is taken
   pub names_d : (propose stop_ranks asks merging_abc four).result ≡ Ok (C.Move (record { tables = record { count = 1; bytes = 500 }; dest_level = 2; canonical_level = 2; target_size = 100 }))
   pub books_d : (book stop_ranks asks merging_abc four).result ≡ Err SpanTaken

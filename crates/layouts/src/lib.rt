@@ -2,10 +2,11 @@
 #![tactic(auto)]
 
 ghost use Rattle.layouts.specs.Layouts.{Layouts};
+ghost use Rattle.layouts.specs.Promises.{Promised};
 
 /// Its contract holds the layouts: each is an equation over the definitions that the strategies and the calls on a book are proved to follow.
-pub fn worked_layouts() -> bool
-    ensures { Layouts }
-{
-    true
-}
+/// And it holds what the promises over lists of calls say of some of them.
+pub fn worked_layouts()
+    ensures layouts { Layouts }
+    ensures promised { Promised }
+{}

@@ -1,5 +1,6 @@
 use Rattle.layouts.proofs.Layouts.{layouts}
+use Rattle.layouts.proofs.Promises.{promised}
 use Rattle.layouts.proofs.worked_layouts.Goals as goal
 
 pub returns : goal.returns
-returns c = layouts
+returns c = record { layouts = layouts; promised = promised }
