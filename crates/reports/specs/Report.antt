@@ -2,6 +2,7 @@
 use Rattle.std.specs.Prelude.{ℕ, List, [], ◌∷◌, ◌++◌, codes, decimal}
 use Rattle.std.specs.List.{flat_map, join_with_byte}
 use Rattle.refusals.specs.declared.refusal.Refusal.{Refusal}
+use Rattle.refusals.specs.declared.refusal.Refusal.TheVariants.{NotSound, NoSuchJob, BadTable, BadOutputs, Full, BadSetting, ManyRuns, HiddenTable, IdsTooShort, NamesNoTable, AlreadyHidden, SpanTaken, BookFull, KeyTooLong}
 use Rattle.refusals.specs.Refusal.{number_of, layer_of, place_of, letter_of}
 use Rattle.runs.specs.declared.table.Table.{Table}
 use Rattle.strategies.specs.declared.choice.Choice.{Choice}
@@ -63,6 +64,7 @@ done_text Landed = codes "landed"
 done_text Closed = codes "closed"
 done_text GivenUp = codes "given up"
 
+-- the line of what was done
 abbrev pub done_line : Done → List ℕ
 done_line done = line_of (done_text done ∷ [])
 
@@ -70,10 +72,27 @@ done_line done = line_of (done_text done ∷ [])
 abbrev pub opened_line : ℕ → List ℕ
 opened_line count = line_of (codes "opened" ∷ decimal count ∷ [])
 
--- a refusal: its number, the letter of its layer and its place, and then some words
-abbrev pub refused_line : Refusal → List ℕ → List ℕ
-refused_line refusal words =
-    line_of (codes "refused" ∷ decimal (number_of refusal) ∷ (letter_of (layer_of refusal) ∷ []) ∷ decimal (place_of refusal) ∷ words ∷ [])
+-- a refusal in plain words
+abbrev pub refusal_words : Refusal → List ℕ
+refusal_words NotSound = codes "the book or the sheet is not sound"
+refusal_words NoSuchJob = codes "no running job has this number"
+refusal_words (BadTable at) = codes "a table is malformed or its number is taken"
+refusal_words (BadOutputs at) = codes "the outputs do not fit the job"
+refusal_words Full = codes "the sheet or the total of sizes would be passed"
+refusal_words BadSetting = codes "a setting is outside its limits"
+refusal_words ManyRuns = codes "level 0 has more than one run"
+refusal_words (HiddenTable at) = codes "a table of level 0 is hidden"
+refusal_words IdsTooShort = codes "the id sheet is too short"
+refusal_words NamesNoTable = codes "the choice names no table"
+refusal_words (AlreadyHidden at) = codes "a table of the choice is hidden"
+refusal_words SpanTaken = codes "a running job to the same level meets the span"
+refusal_words BookFull = codes "no job is free or too many tables would be hidden"
+refusal_words KeyTooLong = codes "a byte key has more than 32 bytes"
+
+-- a refusal: its number, the letter of its layer and its place, and its words
+abbrev pub refused_line : Refusal → List ℕ
+refused_line refusal =
+    line_of (codes "refused" ∷ decimal (number_of refusal) ∷ (letter_of (layer_of refusal) ∷ []) ∷ decimal (place_of refusal) ∷ refusal_words refusal ∷ [])
 
 -- a table, where `spelt` writes a key
 abbrev pub table_line : {K : Type 0} → (K → List ℕ) → Table K → List ℕ

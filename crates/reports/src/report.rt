@@ -1,7 +1,7 @@
 //! The lines of the answers.
-ghost use Rattle.std.specs.Prelude.{◌≡◌, ℕ, List, ◌++◌, Some, string_bytes, OnOk, IfErr};
+ghost use Rattle.std.specs.Prelude.{◌≡◌, ◌++◌, Some, string_bytes, OnOk, IfErr};
 ghost use Rattle.texts.specs.declared.fault.Fault.TheVariants.{Memory};
-ghost use Rattle.reports.specs.Report.{spaced, list_line, input_text, choice_text, choice_line, booked_line, task_text, job_line, done_text, done_line, opened_line, refused_line, table_line};
+ghost use Rattle.reports.specs.Report.{spaced, list_line, input_text, choice_text, choice_line, booked_line, task_text, job_line, done_text, done_line, opened_line, refusal_words, refused_line, table_line};
 
 use refusals::refusal::Refusal;
 use runs::table::Table;
@@ -12,7 +12,9 @@ use texts::fault::Fault;
 use texts::key_text::{KeyText, Spelt};
 
 // A refusal in plain words.
-fn words(refusal: Refusal) -> &'static str {
+fn words(refusal: Refusal) -> &'static str
+    ensures { result.now ≡ refusal_words refusal }
+{
     match refusal {
         Refusal::NotSound => "the book or the sheet is not sound",
         Refusal::NoSuchJob => "no running job has this number",
@@ -33,7 +35,7 @@ fn words(refusal: Refusal) -> &'static str {
 
 /// The line of a refusal.
 pub fn write_refusal(out: &mut String, refusal: Refusal) -> Result<(), Fault>
-    ensures line { OnOk result ((words : List ℕ) × (string_bytes out.new ≡ string_bytes out.old ++ refused_line refusal words)) }
+    ensures line { OnOk result (string_bytes out.new ≡ string_bytes out.old ++ refused_line refusal) }
     ensures fails { IfErr result (λ e. e ≡ Memory) }
 {
     writeln!(

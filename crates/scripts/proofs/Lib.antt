@@ -1,5 +1,6 @@
 mod Bodies
 mod Bounds
+mod Lackings
 mod Lines
 mod Ratios
 mod Readers

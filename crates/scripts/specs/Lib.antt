@@ -1,2 +1,3 @@
 pub mod Command
+pub mod Lacking
 pub mod Strategy

@@ -1,8 +1,11 @@
 //! The lines of a script.
+ghost use Rattle.std.specs.Prelude.{IfErr};
 ghost use Rattle.texts.specs.declared.field.Field.TheVariants.{Places};
+ghost use Rattle.texts.specs.Lacking.{Names, OnlyNames};
 ghost use Rattle.texts.specs.Reading.{Reads, Plain};
 ghost use Rattle.texts.specs.Words.{words_of};
 ghost use Rattle.scripts.specs.Command.{name_of, key_name_of, ReadsName, SaysLine, SaysNumber, SaysQuestion, SaysBody, SaysFresh, SaysTable, SaysCall};
+ghost use Rattle.scripts.specs.Lacking.{LacksLine, LacksNumber, LacksQuestion, LacksBody, LacksFresh, LacksTable, LacksCall};
 
 use crate::strategy::read_strategy;
 use keys::key_range::KeyRange;
@@ -96,7 +99,8 @@ pub enum Line<'a> {
 impl<'a> Line<'a> {
     /// Reads the first word of a line.
     pub fn read(text: &'a str) -> Result<Line<'a>, Fault>
-        ensures { Reads (Plain (SaysLine (words_of text.now))) result }
+        ensures says { Reads (Plain (SaysLine (words_of text.now))) result }
+        ensures names { IfErr result (OnlyNames (LacksLine (words_of text.now))) }
     {
         let mut words = Words::new(text);
         match words.next() {
@@ -145,7 +149,8 @@ pub enum Command<K> {
 impl<K: KeyText> Command<K> {
     /// Reads what stands behind the first word, to the end of the line.
     pub fn read(heap: Global, word: Word, words: &mut Words<'_>) -> Result<Command<K>, Fault>
-        ensures { Reads (SaysCall K.KeyText.says word words.old) result }
+        ensures says { Reads (SaysCall K.KeyText.says word words.old) result }
+        ensures names { IfErr result (Names (LacksCall K.KeyText.says K.KeyText.wanted word words.old)) }
     {
         match word {
             Word::Sheet => Ok(Command::Sheet(read_places(words)?)),
@@ -169,7 +174,8 @@ impl<K: KeyText> Command<K> {
 
 // The one number of a line.
 fn last_number(words: &mut Words<'_>, field: Field) -> Result<u64, Fault>
-    ensures { Reads (Plain (SaysNumber field words.old)) result }
+    ensures says { Reads (Plain (SaysNumber field words.old)) result }
+    ensures names { IfErr result (OnlyNames (LacksNumber field words.old)) }
 {
     let n = words.number(field)?;
     words.end()?;
@@ -178,14 +184,16 @@ fn last_number(words: &mut Words<'_>, field: Field) -> Result<u64, Fault>
 
 // How many places a sheet has.
 fn read_places(words: &mut Words<'_>) -> Result<usize, Fault>
-    ensures { Reads (Plain (SaysNumber Places words.old)) result }
+    ensures says { Reads (Plain (SaysNumber Places words.old)) result }
+    ensures names { IfErr result (OnlyNames (LacksNumber Places words.old)) }
 {
     Ok(last_number(words, Field::Places)? as usize)
 }
 
 // A clock, then a strategy.
 fn read_question<K: KeyText>(heap: Global, words: &mut Words<'_>) -> Result<Question<K>, Fault>
-    ensures { Reads (SaysQuestion K.KeyText.says words.old) result }
+    ensures says { Reads (SaysQuestion K.KeyText.says words.old) result }
+    ensures names { IfErr result (Names (LacksQuestion K.KeyText.says K.KeyText.wanted words.old)) }
 {
     let clock = words.number(Field::Clock)?;
     let settings = read_strategy(heap, words)?;
@@ -194,7 +202,8 @@ fn read_question<K: KeyText>(heap: Global, words: &mut Words<'_>) -> Result<Ques
 
 // A table with no level and no run.
 fn read_fresh<K: KeyText>(heap: Global, words: &mut Words<'_>) -> Result<Fresh<K>, Fault>
-    ensures { Reads (SaysFresh K.KeyText.says words.old) result }
+    ensures says { Reads (SaysFresh K.KeyText.says words.old) result }
+    ensures names { IfErr result (Names (LacksFresh K.KeyText.says K.KeyText.wanted words.old)) }
 {
     let number = words.number(Field::Number)?;
     read_body(heap, number, words)
@@ -202,7 +211,8 @@ fn read_fresh<K: KeyText>(heap: Global, words: &mut Words<'_>) -> Result<Fresh<K
 
 // A standing table: level and run stand behind its number.
 fn read_table<K: KeyText>(heap: Global, words: &mut Words<'_>) -> Result<Table<K>, Fault>
-    ensures { Reads (SaysTable K.KeyText.says words.old) result }
+    ensures says { Reads (SaysTable K.KeyText.says words.old) result }
+    ensures names { IfErr result (Names (LacksTable K.KeyText.says K.KeyText.wanted words.old)) }
 {
     let number = words.number(Field::Number)?;
     let level = words.number(Field::Level)? as u8;
@@ -217,7 +227,8 @@ fn read_body<K: KeyText>(
     number: u64,
     words: &mut Words<'_>,
 ) -> Result<Fresh<K>, Fault>
-    ensures { Reads (SaysBody K.KeyText.says number words.old) result }
+    ensures says { Reads (SaysBody K.KeyText.says number words.old) result }
+    ensures names { IfErr result (Names (LacksBody K.KeyText.says K.KeyText.wanted words.old)) }
 {
     let min = K::read_key(heap, words.expect(Expected::Key)?)?;
     let max = K::read_key(heap, words.expect(Expected::Key)?)?;

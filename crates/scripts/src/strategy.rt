@@ -1,11 +1,14 @@
 //! A strategy and its settings, as a line says them.
-ghost use Rattle.std.specs.Prelude.{◌≡◌, ◌≢◌, ℕ, ◌≤◌, List, ◌++◌, length, codes, from_bits, Float, MatchOption};
+ghost use Rattle.std.specs.Prelude.{◌≡◌, ◌≢◌, ℕ, ◌≤◌, List, ◌++◌, length, codes, from_bits, Float, MatchOption, IfErr};
 ghost use Rattle.std.specs.Float.{binary32};
 ghost use Rattle.std.specs.Float.Parse.{parse_float};
 ghost use Rattle.std.specs.Option.{SomeIff};
 ghost use Rattle.std.specs.Str.Parse.{IsNumeral, digits_value};
+ghost use Rattle.texts.specs.declared.field.Field.TheVariants as F;
+ghost use Rattle.texts.specs.Lacking.{Names, OnlyNames};
 ghost use Rattle.texts.specs.Reading.{Reading, Reads, Plain};
 ghost use Rattle.scripts.specs.Strategy.{RatioWord, SaysRatios, listed, SaysLeveled, SaysFifo, SaysMajor, BoundWord, SaysBounds, SaysStrategy};
+ghost use Rattle.scripts.specs.Lacking.{LacksNumber, LacksRatio, LacksLeveled, LacksFifo, bound_wanted, LacksBounds, LacksStrategy};
 
 use keys::bounds::OwnedBounds;
 use levels::settings::Settings as LeveledSettings;
@@ -47,7 +50,8 @@ pub fn ratio(word: &str) -> Option<f32>
 
 // Ratios to the end of the line.
 fn ratios(heap: Global, words: &mut Words<'_>) -> Result<Vec<f32>, Fault>
-    ensures { Reads (Plain (SaysRatios words.old)) (listed result) }
+    ensures says { Reads (Plain (SaysRatios words.old)) (listed result) }
+    ensures names { IfErr result (Names (LacksRatio words.old)) }
 {
     let mut ratios = Vec::new(heap);
     for word in words {
@@ -58,7 +62,8 @@ fn ratios(heap: Global, words: &mut Words<'_>) -> Result<Vec<f32>, Fault>
 
 // A bound: `*`, or a key behind `[` where it is included and behind `(` where it is not.
 fn read_bound<K: KeyText>(heap: Global, word: &str) -> Result<Result<Bound<K>, Refusal>, Fault>
-    ensures { Reading (BoundWord K.KeyText.says) word.now result }
+    ensures says { Reading (BoundWord K.KeyText.says) word.now result }
+    ensures names { IfErr result (Names (λ lacking. lacking ≡ bound_wanted K.KeyText.wanted word.now)) }
 {
     if word == "*" {
         return Ok(Ok(Bound::Unbounded));
@@ -74,7 +79,8 @@ fn read_bound<K: KeyText>(heap: Global, word: &str) -> Result<Result<Bound<K>, R
 
 // The two bounds of a range drop. A line that is malformed is malformed first, and only then refused.
 fn read_bounds<K: KeyText>(heap: Global, words: &mut Words<'_>) -> Result<OwnedBounds<K>, Fault>
-    ensures { Reads (SaysBounds K.KeyText.says words.old) result }
+    ensures says { Reads (SaysBounds K.KeyText.says words.old) result }
+    ensures names { IfErr result (Names (LacksBounds K.KeyText.says K.KeyText.wanted words.old)) }
 {
     let start = read_bound::<K>(heap, words.expect(Expected::Bound)?)?;
     let end = read_bound::<K>(heap, words.expect(Expected::Bound)?)?;
@@ -87,7 +93,8 @@ fn read_bounds<K: KeyText>(heap: Global, words: &mut Words<'_>) -> Result<OwnedB
 
 // A target and a threshold, then ratios.
 fn read_leveled(heap: Global, words: &mut Words<'_>) -> Result<LeveledSettings, Fault>
-    ensures { Reads (Plain (SaysLeveled words.old)) result }
+    ensures says { Reads (Plain (SaysLeveled words.old)) result }
+    ensures names { IfErr result (Names (LacksLeveled words.old)) }
 {
     let target = words.number(Field::Target)?;
     let threshold = words.number(Field::Threshold)? as u32;
@@ -102,7 +109,8 @@ fn read_leveled(heap: Global, words: &mut Words<'_>) -> Result<LeveledSettings, 
 
 // A limit and a time to live.
 fn read_fifo(words: &mut Words<'_>) -> Result<FifoSettings, Fault>
-    ensures { Reads (Plain (SaysFifo words.old)) result }
+    ensures says { Reads (Plain (SaysFifo words.old)) result }
+    ensures names { IfErr result (OnlyNames (LacksFifo words.old)) }
 {
     let limit = words.number(Field::Limit)?;
     let ttl_seconds = words.number(Field::Ttl)?;
@@ -112,7 +120,8 @@ fn read_fifo(words: &mut Words<'_>) -> Result<FifoSettings, Fault>
 
 // A target.
 fn read_major(words: &mut Words<'_>) -> Result<MajorSettings, Fault>
-    ensures { Reads (Plain (SaysMajor words.old)) result }
+    ensures says { Reads (Plain (SaysMajor words.old)) result }
+    ensures names { IfErr result (OnlyNames (LacksNumber F.Target words.old)) }
 {
     let target_size = words.number(Field::Target)?;
     words.end()?;
@@ -121,7 +130,8 @@ fn read_major(words: &mut Words<'_>) -> Result<MajorSettings, Fault>
 
 /// The settings of the strategy that the rest of a line says. Whether they are within their limits is the strategy's to say.
 pub fn read_strategy<K: KeyText>(heap: Global, words: &mut Words<'_>) -> Result<Settings<K>, Fault>
-    ensures { Reads (SaysStrategy K.KeyText.says words.old) result }
+    ensures says { Reads (SaysStrategy K.KeyText.says words.old) result }
+    ensures names { IfErr result (Names (LacksStrategy K.KeyText.says K.KeyText.wanted words.old)) }
 {
     match words.expect(Expected::Strategy)? {
         "leveled" => Ok(Settings::Leveled(read_leveled(heap, words)?)),

@@ -13,6 +13,7 @@ byte_of None low = None
 byte_of (Some high) None = None
 byte_of (Some high) (Some low) = Some (16 * high + low)
 
+-- a byte before some others, where each is one
 abbrev pub before : Option ℕ → Option (List ℕ) → Option (List ℕ)
 before None bs = None
 before (Some b) None = None

@@ -17,6 +17,7 @@ pub record StopWord (w : List ℕ) (r : Result StopKey Refusal) : Type 0 where
   pub stop : decimal_of (2 ^ 32 - 1) after ≡ Some key.stop
   pub is : r ≡ Ok key
 
+-- tour and stop in decimal digits, with a colon between them
 abbrev pub stop_text : StopKey → List ℕ
 stop_text k = decimal k.tour ++ (58 ∷ decimal k.stop)
 
@@ -37,5 +38,6 @@ abbrev pub bytes_text : List ℕ → List ℕ
 bytes_text [] = 45 ∷ []
 bytes_text (b ∷ bs) = hexed (b ∷ bs)
 
+-- a byte key is written by its bytes
 abbrev pub byte_text : ByteKey → List ℕ
 byte_text = bytes_text

@@ -1,6 +1,7 @@
 //! Why a line of a script was not carried out.
-ghost use Rattle.std.specs.Prelude.{◌≡◌};
+ghost use Rattle.std.specs.Prelude.{◌≡◌, Some};
 ghost use Rattle.texts.specs.declared.fault.Fault.TheVariants.{Memory, Refused};
+ghost use Rattle.texts.specs.Fault.{expected_text, fault_text};
 
 use crate::field::Field;
 use refusals::refusal::Refusal;
@@ -79,6 +80,8 @@ impl From<Refusal> for Fault {
 }
 
 impl fmt::Display for Expected {
+    ghost output = { λ expected. Some (expected_text expected) };
+
     fn fmt<W: fmt::Write>(&self, f: &mut fmt::Formatter<W>) -> fmt::Result {
         match *self {
             Expected::Word => f.write_str("a word of the script's, as table or propose"),
@@ -104,6 +107,8 @@ impl fmt::Display for Expected {
 }
 
 impl fmt::Display for Fault {
+    ghost output = { λ fault. Some (fault_text fault) };
+
     fn fmt<W: fmt::Write>(&self, f: &mut fmt::Formatter<W>) -> fmt::Result {
         match *self {
             Fault::Malformed(expected) => write!(f, "expected {expected}"),

@@ -1,6 +1,6 @@
 //! The numbers of a line, each with its own width.
-ghost use Rattle.std.specs.Prelude.{◌≡◌};
-ghost use Rattle.texts.specs.Field.{most_of};
+ghost use Rattle.std.specs.Prelude.{◌≡◌, Some};
+ghost use Rattle.texts.specs.Field.{most_of, field_name, field_text};
 
 use std::fmt;
 
@@ -36,7 +36,10 @@ impl Field {
         }
     }
 
-    fn name(self) -> &'static str {
+    // Its name in the grammar.
+    fn name(self) -> &'static str
+        ensures { result.now ≡ field_name self }
+    {
         match self {
             Field::Places => "N",
             Field::Number => "NUMBER",
@@ -57,6 +60,8 @@ impl Field {
 }
 
 impl fmt::Display for Field {
+    ghost output = { λ field. Some (field_text field) };
+
     fn fmt<W: fmt::Write>(&self, f: &mut fmt::Formatter<W>) -> fmt::Result {
         let name = self.name();
         let most = self.most();

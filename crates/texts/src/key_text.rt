@@ -1,7 +1,10 @@
 //! How a key stands in a script.
-ghost use Rattle.std.specs.Prelude.{ℕ, List, Some, Result};
+ghost use Rattle.std.specs.Prelude.{◌≡◌, ℕ, List, Some, Result, IfErr};
 ghost use Rattle.std.specs.Fmt.{WritesOnOk};
 ghost use Rattle.refusals.specs.declared.refusal.Refusal.{Refusal};
+ghost use Rattle.texts.specs.declared.fault.Expected.{Expected};
+ghost use Rattle.texts.specs.declared.fault.Expected.TheVariants as X;
+ghost use Rattle.texts.specs.Lacking.{Names, OnlyNames};
 ghost use Rattle.texts.specs.Reading.{Reading};
 ghost use Rattle.texts.specs.KeyText.{StopWord, ByteWord, stop_text, byte_text};
 
@@ -20,12 +23,16 @@ pub trait KeyText: KeyKind {
     // That a word says a key, or what is refused of it.
     ghost says: { List ℕ → Result Self Refusal → Type 0 };
 
+    // What is lacking where a word says no key.
+    ghost wanted: { Expected };
+
     // The text of a key.
     ghost spelt: { Self → List ℕ };
 
     /// The key that a word says, or its refusal, apart from what is malformed: a line is refused only where the rest of it is well formed.
     fn read_key(heap: Global, word: &str) -> Result<Result<Self, Refusal>, Fault>
-        ensures { Reading says word.now result };
+        ensures says { Reading says word.now result }
+        ensures names { IfErr result (Names (λ lacking. lacking ≡ wanted)) };
 
     /// Writes the key.
     fn write_key<W: fmt::Write>(&self, f: &mut fmt::Formatter<W>) -> fmt::Result
@@ -47,9 +54,15 @@ impl<K: KeyText> fmt::Display for Spelt<'_, K> {
 impl KeyText for StopKey {
     ghost says = { StopWord };
 
+    ghost wanted = { X.StopKey };
+
     ghost spelt = { stop_text };
 
-    fn read_key(_heap: Global, word: &str) -> Result<Result<StopKey, Refusal>, Fault> {
+    fn read_key(_heap: Global, word: &str) -> Result<Result<StopKey, Refusal>, Fault>
+        ensures says { Reading StopWord word.now result }
+        ensures names { IfErr result (Names (λ lacking. lacking ≡ X.StopKey)) }
+        ensures alone { IfErr result (OnlyNames (λ lacking. lacking ≡ X.StopKey)) }
+    {
         let malformed = Fault::Malformed(Expected::StopKey);
         let (before, after) = word.split_once(':').ok_or(malformed)?;
         let tour = decimal(before, u32::MAX as u64).ok_or(malformed)?;
@@ -68,6 +81,8 @@ impl KeyText for StopKey {
 
 impl KeyText for ByteKey {
     ghost says = { ByteWord };
+
+    ghost wanted = { X.ByteKey };
 
     ghost spelt = { byte_text };
 
