@@ -1,7 +1,6 @@
 -- What a call on an open book makes of a history.
-use Rattle.std.proofs.Common.{◌≡◌, ℕ, min, List, [], length, Some, None, Ok, Err, Option, Result, Ordering, sym, refl, ap, ◌∙◌, subst}
+use Rattle.std.proofs.Common.{◌≡◌, ℕ, min, List, [], length, Some, None, Option, Ordering, sym, refl, ap, ◌∙◌, subst}
 use Rattle.std.specs.Option.{IsSomeAnd}
-use Rattle.refusals.specs.declared.refusal.Refusal.{Refusal}
 use Rattle.keys.specs.KeyKind.{Laws}
 use Rattle.runs.specs.declared.fresh.Fresh.{Fresh}
 use Rattle.runs.specs.declared.table.Table.{Table}
@@ -18,9 +17,6 @@ use Rattle.jobs.specs.Call.{deed}
 use Rattle.jobs.specs.View.{state}
 use Rattle.desk.specs.declared.histories.History.{History}
 use Rattle.desk.specs.declared.histories.Phase.TheVariants.{Open}
-use Rattle.texts.specs.declared.fault.Fault.{Fault}
-use Rattle.texts.specs.declared.fault.Fault.TheVariants as F
-use Rattle.desk.specs.Carrying.{NotRefused, OnRefused}
 use Rattle.desk.specs.Calls.{done_by, Tells, ids_of, Made, Makes}
 use Rattle.desk.specs.History.{state_in, state_of}
 use Rattle.desk.proofs.Asking.{all_places}
@@ -94,10 +90,3 @@ module _ {K : Type 0} (cmp : K → K → Ordering) (ticket : ℕ) (outs outs' le
   used_up phase sheet places ids e f is =
       emptied cmp (λ st. closing ticket outs') [] h h1 h' text phase sheet places ids
       (subst (λ l. Makes cmp (λ st. closing ticket outs') l h1 h' text) f (subst (λ o. Makes cmp (λ st. closing ticket o) left h1 h' text) e is))
-
--- what never refuses is refused as one likes
-pub never : (r : Result (Unit {0}) Fault) (P : Refusal → Type 0) → NotRefused r → OnRefused r P
-never (Ok _) P h = h
-never (Err (F.Malformed e)) P h = h
-never (Err (F.Refused e)) P h = absurd h
-never (Err F.Memory) P h = h

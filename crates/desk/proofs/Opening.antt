@@ -53,8 +53,8 @@ module _ {K : Type 0} (cmp : K → K → Ordering) (blobs : ℕ) where
     abbrev opening : Result (State K) Refusal
     opening = open_on cmp h.places (length h.sheet.items) blobs h.sheet.items
 
-    pub opens_none : (refusal : Refusal) (words : List ℕ) → Err refusal ≡ opening → Opens cmp blobs h h (refused_line refusal words)
-    opens_none refusal words e = let same : OpensAs (Err refusal) h h (refused_line refusal words) = (refl, (words, refl)) in subst (λ r. OpensAs r h h (refused_line refusal words)) e same
+    pub opens_none : (refusal : Refusal) → Err refusal ≡ opening → Opens cmp blobs h h (refused_line refusal)
+    opens_none refusal e = let same : OpensAs (Err refusal) h h (refused_line refusal) = (refl, refl) in subst (λ r. OpensAs r h h (refused_line refusal)) e same
 
     pub opens_one : (h' : History K) (st : State K) (count : ℕ) → Ok st ≡ opening → IsOpened h h' st → count ≡ length h.sheet.items → Opens cmp blobs h h' (opened_line count)
     opens_one h' st count e is n = let done : OpensAs (Ok st) h h' (opened_line count) = (is, ap opened_line n) in subst (λ r. OpensAs r h h' (opened_line count)) e done

@@ -1,5 +1,5 @@
 -- What carrying a line out does to the desk, and what it writes.
-use Rattle.std.specs.Prelude.{◌≡◌, ℕ, List, [], ◌∷◌, ◌++◌, Ok, Err, Result, ◌⊎◌, ⊤}
+use Rattle.std.specs.Prelude.{◌≡◌, ℕ, ◌≤◌, List, [], ◌∷◌, ◌++◌, length, Ok, Err, Result, ◌⊎◌, ⊤}
 use Rattle.std.specs.declared.cmp.Ordering.{Ordering}
 use Rattle.refusals.specs.declared.refusal.Refusal.{Refusal}
 use Rattle.keys.specs.ByteKey.{byte_ranks}
@@ -22,7 +22,7 @@ use Rattle.desk.specs.declared.desk.Desk.TheVariants.{Stops, Bytes}
 use Rattle.desk.specs.declared.histories.History.{History}
 use Rattle.desk.specs.Desk.{Refuses}
 use Rattle.desk.specs.Calls.{ids_of, asked_of, Makes}
-use Rattle.desk.specs.History.{Stands, IsFresh, Opens}
+use Rattle.desk.specs.History.{Stands, MayStand, IsFresh, Opens}
 use Rattle.desk.specs.Show.{Shows}
 
 -- a text of which P is true is written behind what was there
@@ -43,7 +43,7 @@ NotRefused result = OnRefused result (λ _. ⊥)
 module _ {K : Type 0} (says : List ℕ → Result K Refusal → Type 0) (spelt : K → List ℕ) (cmp : K → K → Ordering) where
   -- the history before and after a command, and what it answers
   abbrev pub Does : Command K → History K → History K → List ℕ → Type 0
-  Does (C.Sheet places) h h' text = Stands h' places h.id_places h.sheet.items h.phase h.outputs.items × (text ≡ [])
+  Does (C.Sheet places) h h' text = (length h.sheet.items ≤ places) × Stands h' places h.id_places h.sheet.items h.phase h.outputs.items × (text ≡ [])
   Does (C.Ids places) h h' text = Stands h' h.places places h.sheet.items h.phase h.outputs.items × (text ≡ [])
   Does (C.Table table) h h' text = Stands h' h.places h.id_places (h.sheet.items ++ (table ∷ [])) h.phase h.outputs.items × (text ≡ [])
   Does (C.Open blobs) h h' text = Opens cmp blobs h h' text
@@ -56,8 +56,9 @@ module _ {K : Type 0} (says : List ℕ → Result K Refusal → Type 0) (spelt :
   Does (C.GiveUp ticket) h h' text = Makes cmp (λ st. giving ticket) h.outputs.items h h' text
   Does C.Show h h' text = (h' ≡ h) × Shows spelt h text
 
-  -- a first word and the words behind it say a command, and it is carried out
+  -- a first word, which may stand, and the words behind it say a command, and it is carried out
   pub record CarriesCall (word : Word) (words : List (List ℕ)) (h h' : History K) (text : List ℕ) : Type 0 where
+    pub stands : MayStand h word
     pub command : Command K
     pub said : SaysCall says word words (Ok command)
     pub does : Does command h h' text
@@ -84,8 +85,8 @@ pub record CarriesOut (line : List ℕ) (desk desk' : Desk) (text : List ℕ) : 
 
 -- a key of the line is refused
 abbrev pub RefusesKey : Line → Desk → Refusal → Type 0
-RefusesKey (L.Call word words) (Stops h) refusal = SaysCall StopWord word words (Err refusal)
-RefusesKey (L.Call word words) (Bytes h) refusal = SaysCall ByteWord word words (Err refusal)
+RefusesKey (L.Call word words) (Stops h) refusal = MayStand h word × SaysCall StopWord word words (Err refusal)
+RefusesKey (L.Call word words) (Bytes h) refusal = MayStand h word × SaysCall ByteWord word words (Err refusal)
 RefusesKey _ _ _ = ⊥
 
 -- a text says a line, and a key of the line is refused

@@ -5,9 +5,9 @@ use Rattle.refusals.specs.declared.refusal.Refusal.{Refusal}
 use Rattle.runs.specs.declared.table.Table.{Table}
 use Rattle.reports.specs.Report.{refused_line, table_line}
 
--- the line of a refusal, with some words that say it
+-- the line of a refusal
 abbrev pub Refuses : Refusal → List ℕ → Type 0
-Refuses refusal text = (words : List ℕ) × (text ≡ refused_line refusal words)
+Refuses refusal text = text ≡ refused_line refusal
 
 -- a line for each table
 abbrev pub table_lines : {K : Type 0} → (K → List ℕ) → List (Table K) → List ℕ

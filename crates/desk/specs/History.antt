@@ -1,5 +1,5 @@
 -- A history: how it stands, and how its book is opened.
-use Rattle.std.specs.Prelude.{◌≡◌, ℕ, ◌≤◌, min, List, [], length, take, Some, None, Ok, Err, Option, Result}
+use Rattle.std.specs.Prelude.{◌≡◌, ℕ, ◌≤◌, min, Bool, cond, List, [], length, take, Some, None, Ok, Err, Option, Result, nat_le}
 use Rattle.std.specs.declared.cmp.Ordering.{Ordering}
 use Rattle.refusals.specs.declared.refusal.Refusal.{Refusal}
 use Rattle.runs.specs.declared.fresh.Fresh.{Fresh}
@@ -7,6 +7,10 @@ use Rattle.runs.specs.declared.table.Table.{Table}
 use Rattle.books.specs.State.{State}
 use Rattle.jobs.specs.Open.{open_on}
 use Rattle.jobs.specs.View.{state}
+use Rattle.texts.specs.declared.fault.Expected.{Expected}
+use Rattle.texts.specs.declared.fault.Expected.TheVariants as E
+use Rattle.scripts.specs.declared.command.Word.{Word}
+use Rattle.scripts.specs.declared.command.Word.TheVariants as W
 use Rattle.reports.specs.Report.{opened_line}
 use Rattle.desk.specs.declared.histories.History.{History}
 use Rattle.desk.specs.declared.histories.Phase.{Phase}
@@ -20,6 +24,33 @@ pub record Stands {K : Type 0} (h : History K) (places id_places : ℕ) (sheet :
   pub tables : h.sheet.items ≡ sheet
   pub far : h.phase ≡ phase
   pub given : h.outputs.items ≡ outputs
+
+-- what a first word lacks as long as the sheet is filled, if anything: a table lacks a place where the sheet is full, and what is asked of a book lacks one
+abbrev pub lacks_filling : Bool → Word → Option Expected
+lacks_filling is_full W.Ids = None
+lacks_filling is_full W.Sheet = None
+lacks_filling is_full W.Table = cond is_full (Some E.Place) None
+lacks_filling is_full W.Open = None
+lacks_filling is_full _ = Some E.OpenBook
+
+-- what it lacks once the book is open: what fills the sheet comes too late
+abbrev pub lacks_open : Word → Option Expected
+lacks_open W.Sheet = Some E.NoBook
+lacks_open W.Table = Some E.NoBook
+lacks_open W.Open = Some E.NoBook
+lacks_open _ = None
+
+abbrev pub lacks_in : Phase → Bool → Word → Option Expected
+lacks_in Filling is_full word = lacks_filling is_full word
+lacks_in (Open book) is_full word = lacks_open word
+
+-- what a first word lacks in a history, if anything
+abbrev pub lacks : {K : Type 0} → History K → Word → Option Expected
+lacks h word = lacks_in h.phase (nat_le h.places (length h.sheet.items)) word
+
+-- the word may stand where the history is
+abbrev pub MayStand : {K : Type 0} → History K → Word → Type 0
+MayStand h word = lacks h word ≡ None
 
 -- no tables yet, and 1024 places in each sheet
 abbrev pub IsFresh : {K : Type 0} → History K → Type 0

@@ -11,7 +11,8 @@ ghost use Rattle.jobs.specs.declared.call.Reply.{Reply};
 ghost use Rattle.jobs.specs.Call.{deed, replied};
 ghost use Rattle.jobs.specs.View.{state};
 ghost use Rattle.desk.specs.Calls.{done_by, ids_of, Tells, Makes};
-ghost use Rattle.desk.specs.Carrying.{Appends, NotRefused};
+ghost use Rattle.desk.specs.Carrying.{Appends};
+ghost use Rattle.desk.specs.Malformed.{OnlyMemory, OnlyOpen};
 
 use crate::histories::{History, Phase};
 use history::replay::{Outcome, replay};
@@ -35,7 +36,7 @@ impl<K: KeyText + Default> History<K> {
         out: &mut String,
     ) -> Result<(), Fault>
         ensures made { (call : Call K (Settings K)) → calls.now ≡ call ∷ [] → OnOk result (Appends (string_bytes out.old) (string_bytes out.new) (Makes K.ranks (λ st. deed (standard K.ranks) st.blobs call (ids_of self.old)) self.old.outputs.items self.old self.new)) }
-        ensures fails { NotRefused result }
+        ensures fails { OnlyOpen self.old.phase result }
     {
         let Phase::Open(book) = &mut self.phase else {
             return Err(Fault::Malformed(Expected::OpenBook));
@@ -57,7 +58,7 @@ fn make_one<K: KeyText>(
     ensures state { (call : Call K (Settings K)) → calls.now ≡ call ∷ [] → state book.new sheet.new ≡ (perform K.ranks (deed (standard K.ranks) book.old.blob_total call ids.old) (state book.old sheet.old)).0 }
     ensures rest { (call : Call K (Settings K)) → calls.now ≡ call ∷ [] → sheet.new ≡ laid (state book.new sheet.new).tables sheet.old }
     ensures told { (call : Call K (Settings K)) → calls.now ≡ call ∷ [] → OnOk result (Appends (string_bytes out.old) (string_bytes out.new) (Tells (done_by (deed (standard K.ranks) book.old.blob_total call ids.old)) (perform K.ranks (deed (standard K.ranks) book.old.blob_total call ids.old) (state book.old sheet.old)).1)) }
-    ensures fails { NotRefused result }
+    ensures fails { OnlyMemory result }
 {
     let mut outcomes = [Outcome { reply: None, ids }];
     replay::<K, K, Standard>(book, sheet, calls, &mut outcomes);
@@ -67,7 +68,7 @@ fn make_one<K: KeyText>(
 // The line of the reply in an outcome, if it is made.
 fn write_outcome(out: &mut String, done: Done, outcome: &Outcome<'_>) -> Result<(), Fault>
     ensures line { (r : Reply) → outcome.now.reply ≡ Some r → OnOk result (Appends (string_bytes out.old) (string_bytes out.new) (Tells done (replied r outcome.now.ids.now))) }
-    ensures fails { NotRefused result }
+    ensures fails { OnlyMemory result }
 {
     match outcome.reply {
         None => Ok(()),
@@ -106,7 +107,7 @@ pub(crate) fn query<K>(question: Question<K>) -> Query<Settings<K>>
 // The line of a reply.
 fn write_reply(out: &mut String, done: Done, reply: Reply, ids: &[u64]) -> Result<(), Fault>
     ensures line { OnOk result (Appends (string_bytes out.old) (string_bytes out.new) (Tells done (replied reply ids.now))) }
-    ensures fails { NotRefused result }
+    ensures fails { OnlyMemory result }
 {
     match reply {
         Reply::Ended(Ok(())) => write_done(out, done),

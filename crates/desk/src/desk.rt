@@ -1,7 +1,8 @@
 //! The desk: what a script has said so far, and the answer to its next line.
 ghost use Rattle.std.specs.Prelude.{◌≡◌, string_bytes, OnOk};
 ghost use Rattle.desk.specs.declared.desk.Desk.TheVariants.{Empty};
-ghost use Rattle.desk.specs.Carrying.{Appends, OnRefused, CarriesOut, IsRefused, Starts, Answers};
+ghost use Rattle.desk.specs.Carrying.{Appends, OnRefused, NotRefused, CarriesOut, IsRefused, Starts, Answers};
+ghost use Rattle.desk.specs.Malformed.{OnMalformed, IsMalformed};
 
 use crate::histories::History;
 use keys::byte_key::ByteKey;
@@ -37,9 +38,11 @@ impl Desk {
         }
     }
 
-    /// Carries a line out, and writes its answer behind what is there.
+    /// Carries a line out, and writes its answer behind what is there. A malformed line changes nothing.
     pub fn answer(&mut self, heap: Global, line: &str, out: &mut String) -> Result<(), Fault>
-        ensures { OnOk result (Answers (string_bytes out.old) (string_bytes out.new) line.now self.old self.new) }
+        ensures answers { OnOk result (Answers (string_bytes out.old) (string_bytes out.new) line.now self.old self.new) }
+        ensures malformed { OnMalformed result (λ expected. (self.new ≡ self.old) × (string_bytes out.new ≡ string_bytes out.old) × IsMalformed line.now self.old expected) }
+        ensures unrefused { NotRefused result }
     {
         match self.carry_out(heap, line, out) {
             Err(Fault::Refused(refusal)) => write_refusal(out, refusal),
@@ -51,6 +54,7 @@ impl Desk {
     fn carry_out(&mut self, heap: Global, line: &str, out: &mut String) -> Result<(), Fault>
         ensures does { OnOk result (Appends (string_bytes out.old) (string_bytes out.new) (CarriesOut line.now self.old self.new)) }
         ensures refused { OnRefused result (λ refusal. (self.new ≡ self.old) × (string_bytes out.new ≡ string_bytes out.old) × IsRefused line.now self.old refusal) }
+        ensures malformed { OnMalformed result (λ expected. (self.new ≡ self.old) × (string_bytes out.new ≡ string_bytes out.old) × IsMalformed line.now self.old expected) }
     {
         match Line::read(line)? {
             Line::Blank => Ok(()),

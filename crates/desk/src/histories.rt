@@ -1,13 +1,14 @@
 //! One history of a script: a sheet that is filled, and then the book that is open on it.
-ghost use Rattle.std.specs.Prelude.{◌≡◌, [], ◌++◌, MatchResult, string_bytes, Err, IfOk, OnOk};
-ghost use Rattle.texts.specs.declared.fault.Expected.TheVariants.{OpenBook};
+ghost use Rattle.std.specs.Prelude.{◌≡◌, ◌<◌, ◌≤◌, [], ◌++◌, length, MatchResult, string_bytes, Err, IfOk, OnOk};
+ghost use Rattle.texts.specs.declared.fault.Expected.TheVariants.{OpenBook, Place};
 ghost use Rattle.texts.specs.declared.fault.Fault.TheVariants.{Malformed};
 ghost use Rattle.scripts.specs.Command.{SaysCall};
 ghost use Rattle.books.specs.Deed.{closing};
-ghost use Rattle.desk.specs.declared.histories.Phase.TheVariants.{Open};
+ghost use Rattle.desk.specs.declared.histories.Phase.TheVariants.{Filling, Open};
 ghost use Rattle.desk.specs.Calls.{Makes};
-ghost use Rattle.desk.specs.Carrying.{Appends, NotRefused, OnRefused, CarriesCall};
-ghost use Rattle.desk.specs.History.{Stands, IsFresh, IsWhole, Opens};
+ghost use Rattle.desk.specs.Carrying.{Appends, OnRefused, CarriesCall};
+ghost use Rattle.desk.specs.History.{Stands, lacks, MayStand, IsFresh, IsWhole, Opens};
+ghost use Rattle.desk.specs.Malformed.{admitted, OnlyMemory, OnlyOpen, OnMalformed, MalformedCall};
 
 use crate::calls::{one, query};
 use jobs::call::Call;
@@ -68,7 +69,7 @@ impl<K: KeyText + Default> History<K> {
 
     // Whether the word may stand here: the sheet is filled before the book is opened, and the book is asked after.
     fn admit(&self, word: Word) -> Result<(), Fault>
-        ensures { NotRefused result }
+        ensures { result ≡ admitted (lacks self.now word) }
     {
         let is_full = self.sheet.len() >= self.places;
         match (&self.phase, word) {
@@ -92,7 +93,8 @@ impl<K: KeyText + Default> History<K> {
         out: &mut String,
     ) -> Result<(), Fault>
         ensures does { OnOk result (Appends (string_bytes out.old) (string_bytes out.new) (CarriesCall K.KeyText.says K.KeyText.spelt K.ranks word words.old self.old self.new)) }
-        ensures refused { OnRefused result (λ refusal. (self.new ≡ self.old) × (string_bytes out.new ≡ string_bytes out.old) × SaysCall K.KeyText.says word words.old (Err refusal)) }
+        ensures refused { OnRefused result (λ refusal. (self.new ≡ self.old) × (string_bytes out.new ≡ string_bytes out.old) × MayStand self.old word × SaysCall K.KeyText.says word words.old (Err refusal)) }
+        ensures malformed { OnMalformed result (λ expected. (self.new ≡ self.old) × (string_bytes out.new ≡ string_bytes out.old) × MalformedCall K.KeyText.says word words.old self.old expected) }
     {
         self.admit(word)?;
         match Command::read(heap, word, words)? {
@@ -129,10 +131,9 @@ impl<K: KeyText + Default> History<K> {
         }
     }
 
-    // The sheet has another number of places.
+    // The sheet has another number of places, unless that is fewer than its tables.
     fn set_places(&mut self, places: usize) -> Result<(), Fault>
-        ensures places { OnOk result (Stands self.new places self.old.id_places self.old.sheet.items self.old.phase self.old.outputs.items) }
-        ensures fails { NotRefused result }
+        ensures { MatchResult result (λ _. (length self.old.sheet.items ≤ places) × Stands self.new places self.old.id_places self.old.sheet.items self.old.phase self.old.outputs.items) (λ e. (e ≡ Malformed Place) × (self.new ≡ self.old) × (places < length self.old.sheet.items)) }
     {
         if places < self.sheet.len() {
             return Err(Fault::Malformed(Expected::Place));
@@ -153,7 +154,7 @@ impl<K: KeyText + Default> History<K> {
     // Opens the book on the tables that were given, or writes why it is refused.
     fn open(&mut self, heap: Global, blob_total: u64, out: &mut String) -> Result<(), Fault>
         ensures opens { OnOk result (Appends (string_bytes out.old) (string_bytes out.new) (Opens K.ranks blob_total self.old self.new)) }
-        ensures fails { NotRefused result }
+        ensures fails { OnlyMemory result }
     {
         let standing = self.sheet.len();
         let sheet = self.whole_sheet(heap)?;
@@ -169,7 +170,7 @@ impl<K: KeyText + Default> History<K> {
 
     // The open book.
     pub(crate) fn book(&self) -> Result<&JobBook, Fault>
-        ensures { MatchResult result (λ book. self.now.phase ≡ Open book.now) (λ e. e ≡ Malformed OpenBook) }
+        ensures { MatchResult result (λ book. self.now.phase ≡ Open book.now) (λ e. (e ≡ Malformed OpenBook) × (self.now.phase ≡ Filling)) }
     {
         match &self.phase {
             Phase::Filling => Err(Fault::Malformed(Expected::OpenBook)),
@@ -180,7 +181,7 @@ impl<K: KeyText + Default> History<K> {
     // Closes the job of the ticket's number with the outputs given so far, which are used up, whatever comes of it.
     fn close(&mut self, heap: Global, ticket: u64, out: &mut String) -> Result<(), Fault>
         ensures closes { OnOk result (Appends (string_bytes out.old) (string_bytes out.new) (Makes K.ranks (λ st. closing ticket self.old.outputs.items) [] self.old self.new)) }
-        ensures fails { NotRefused result }
+        ensures fails { OnlyOpen self.old.phase result }
     {
         let outputs = replace(&mut self.outputs, Vec::new(heap));
         self.close_with(heap, ticket, outputs.as_slice(), out)
@@ -195,7 +196,7 @@ impl<K: KeyText + Default> History<K> {
         out: &mut String,
     ) -> Result<(), Fault>
         ensures closes { OnOk result (Appends (string_bytes out.old) (string_bytes out.new) (Makes K.ranks (λ st. closing ticket outputs.now) self.old.outputs.items self.old self.new)) }
-        ensures fails { NotRefused result }
+        ensures fails { OnlyOpen self.old.phase result }
     {
         self.make(one(heap, Call::Close { ticket, outputs })?.as_slice(), out)
     }

@@ -1,4 +1,10 @@
 //! Answers to a script, line after line.
+ghost use Rattle.std.specs.Prelude.{◌≡◌, string_bytes, IfSome, IfErr, OnOk};
+ghost use Rattle.std.specs.Io.KnownBytes.{Keeps};
+ghost use Rattle.std.specs.Result.{IsOkAnd};
+ghost use Rattle.desk.specs.declared.lines.Cause.TheVariants.{Line, Stream};
+ghost use Rattle.desk.specs.Lines.{WritesAnswer, IsAtFault, AnswersAll, GivesUpAt, ForFault};
+
 use crate::desk::Desk;
 use anyhow::anyhow;
 use std::alloc::Global;
@@ -16,12 +22,16 @@ pub enum Cause {
 }
 
 impl From<Fault> for Cause {
+    ghost from_gives = { λ fault r. r ≡ Line fault };
+
     fn from(fault: Fault) -> Cause {
         Cause::Line(fault)
     }
 }
 
 impl From<io::Error> for Cause {
+    ghost from_gives = { λ e r. r ≡ Stream e };
+
     fn from(e: io::Error) -> Cause {
         Cause::Stream(e)
     }
@@ -50,12 +60,15 @@ impl fmt::Display for Halt {
 }
 
 // Answers one line, as it was read.
-fn answer_line(
+fn answer_line<W: Write>(
     heap: Global,
     desk: &mut Desk,
     line: io::Result<String>,
-    writer: &mut impl Write,
-) -> Result<(), Cause> {
+    writer: &mut W,
+) -> Result<(), Cause>
+    ensures answers { OnOk result (IsOkAnd line (λ text. WritesAnswer (string_bytes text) desk.old desk.new (W.contents writer.old) (W.contents writer.new))) }
+    ensures fails { IfErr result (λ cause. ForFault cause (λ fault. IsOkAnd line (λ text. IsAtFault fault (string_bytes text) desk.old × Keeps (W.contents writer.old) (W.contents writer.new)))) }
+{
     let mut out = String::new(heap);
     desk.answer(heap, line?.as_str(), &mut out)?;
     writer.write_all(out.as_bytes())?;
@@ -63,14 +76,22 @@ fn answer_line(
 }
 
 /// Answers the lines of a script one after another, up to the first that cannot be carried out.
-pub fn answer_all(
+/// What is promised speaks of bytes that are known: those that the reader gives, and those that the writer holds.
+pub fn answer_all<R: BufRead + Drop, W: Write>(
     heap: Global,
-    script: impl BufRead + Drop,
-    writer: &mut impl Write,
-) -> Result<(), Halt> {
+    script: R,
+    writer: &mut W,
+) -> Result<(), Halt>
+    ensures answers { OnOk result (IfSome (R.remaining script) (λ bytes. AnswersAll bytes (W.contents writer.old) (W.contents writer.new))) }
+    ensures gives_up { IfErr result (λ halt. IfSome (R.remaining script) (λ bytes. ForFault halt.cause (λ fault. GivesUpAt halt.line fault bytes (W.contents writer.old) (W.contents writer.new)))) }
+{
     let mut desk = Desk::new();
-    for (line, text) in (1..u64::MAX).zip(script.lines(heap)) {
-        answer_line(heap, &mut desk, text, writer).map_err(|cause| Halt { line, cause })?;
+    let mut line = 0u64;
+    for text in script.lines(heap) {
+        line = line.saturating_add(1);
+        if let Err(cause) = answer_line(heap, &mut desk, text, writer) {
+            return Err(Halt { line, cause });
+        }
     }
     Ok(())
 }

@@ -3,8 +3,9 @@ ghost use Rattle.std.specs.Prelude.{◌≡◌, [], ◌∷◌, ◌++◌, map, str
 ghost use Rattle.std.specs.List.{position};
 ghost use Rattle.books.specs.Job.{is_known, found};
 ghost use Rattle.slots.specs.View.{slot};
-ghost use Rattle.desk.specs.Carrying.{Appends, NotRefused};
+ghost use Rattle.desk.specs.Carrying.{Appends};
 ghost use Rattle.desk.specs.Desk.{table_lines};
+ghost use Rattle.desk.specs.Malformed.{OnlyMemory, OnlyOpen};
 ghost use Rattle.desk.specs.Show.{ascending, line_of_job, tickets, job_lines, Shows};
 
 use crate::histories::History;
@@ -20,7 +21,7 @@ impl<K: KeyText + Default> History<K> {
     // The standing tables, hidden numbers and running jobs.
     pub(crate) fn show(&self, heap: Global, out: &mut String) -> Result<(), Fault>
         ensures lines { OnOk result (Appends (string_bytes out.old) (string_bytes out.new) (Shows K.KeyText.spelt self.now)) }
-        ensures fails { NotRefused result }
+        ensures fails { OnlyOpen self.now.phase result }
     {
         let book = self.book()?;
         write_tables(book.tables(self.sheet.as_slice()), out)?;
@@ -35,7 +36,7 @@ impl<K: KeyText + Default> History<K> {
 // A line for each table.
 fn write_tables<K: KeyText>(tables: &[Table<K>], out: &mut String) -> Result<(), Fault>
     ensures lines { OnOk result (string_bytes out.new ≡ string_bytes out.old ++ table_lines K.KeyText.spelt tables.now) }
-    ensures fails { NotRefused result }
+    ensures fails { OnlyMemory result }
 {
     for table in tables {
         write_table(out, table)?;
@@ -76,7 +77,7 @@ fn push_ticket(numbers: &mut Vec<u64>, job: &Job) -> Result<(), AllocError>
 // A line for each running job, by ticket.
 fn write_jobs(heap: Global, jobs: &[Job], out: &mut String) -> Result<(), Fault>
     ensures lines { OnOk result (string_bytes out.new ≡ string_bytes out.old ++ job_lines (map slot jobs.now)) }
-    ensures fails { NotRefused result }
+    ensures fails { OnlyMemory result }
 {
     let tickets = tickets(heap, jobs)?;
     let tickets = ascending(heap, tickets.as_slice())?;
@@ -89,7 +90,7 @@ fn write_jobs(heap: Global, jobs: &[Job], out: &mut String) -> Result<(), Fault>
 // The line of the job that is known by this number, if there is one.
 fn write_known(heap: Global, jobs: &[Job], ticket: u64, out: &mut String) -> Result<(), Fault>
     ensures line { OnOk result (string_bytes out.new ≡ string_bytes out.old ++ line_of_job ticket (found ticket (map slot jobs.now))) }
-    ensures fails { NotRefused result }
+    ensures fails { OnlyMemory result }
 {
     match place_of(jobs, ticket) {
         None => Ok(()),
@@ -107,7 +108,7 @@ fn place_of(jobs: &[Job], ticket: u64) -> Option<usize>
 // The line of what a slot runs, under this number.
 fn write_slot(heap: Global, job: &Job, ticket: u64, out: &mut String) -> Result<(), Fault>
     ensures line { OnOk result (string_bytes out.new ≡ string_bytes out.old ++ line_of_job ticket (slot job.now)) }
-    ensures fails { NotRefused result }
+    ensures fails { OnlyMemory result }
 {
     match job.state() {
         None => Ok(()),

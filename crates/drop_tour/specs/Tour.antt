@@ -23,7 +23,7 @@ bounds_of t = record { start = Included (record { tour = t; stop = 0 }); end = I
 abbrev pub of_tour : ℕ → Table StopKey → Bool
 of_tour tour t = within stop_ranks (bounds_of tour) t.range
 
--- the standing tables that are named
+-- the tables that lie wholly inside the tour
 abbrev pub leaving : ℕ → List (Table StopKey) → List (Table StopKey)
 leaving tour ts = filter (of_tour tour) ts
 

@@ -8,6 +8,7 @@ use keys::stop_key::StopKey;
 use runs::table::Table;
 use tour::drop_tour;
 
+// A stop of a tour.
 fn key((tour, stop): (u32, u32)) -> StopKey {
     StopKey { tour, stop }
 }
@@ -29,6 +30,7 @@ fn table(number: u64, min: (u32, u32), max: (u32, u32), size: u64) -> Table<Stop
     }
 }
 
+// Prints the tables that stand.
 fn print_standing(rt: &impl Print, tables: &[Table<StopKey>]) -> anyhow::Result<()> {
     for t in tables {
         let (min, max) = (t.range.min, t.range.max);

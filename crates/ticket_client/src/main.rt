@@ -1,6 +1,10 @@
 //! A client of the job book: it books jobs, and ends each with the ticket that it was handed.
 #![tactic(auto)]
 
+ghost use Rattle.std.specs.Prelude.{◌≡◌};
+ghost use Rattle.jobs.specs.View.{state};
+ghost use Rattle.ticket_client.specs.Worker.{dropped, dropped_by_hand};
+
 mod worker;
 
 use jobs::job_book::JobBook;
@@ -14,8 +18,11 @@ use std::ops::Bound;
 use strategies::drop_range::DropRange;
 use worker::{Ending, book_tour, end_by_hand, end_job};
 
-// A new table of 100 bytes with these stops of a tour.
-fn fresh(number: u64, tour: u32, (first, last): (u32, u32)) -> Fresh<StopKey> {
+// A new table of 100 bytes, from the first of these stops of a tour to the second.
+fn fresh(number: u64, tour: u32, stops: (u32, u32)) -> Fresh<StopKey>
+    ensures { result ≡ record { number = number; range = record { min = record { tour = tour; stop = stops.0 }; max = record { tour = tour; stop = stops.1 } }; size = 100; created = 0; linked = 0 } }
+{
+    let (first, last) = stops;
     let range = KeyRange {
         min: StopKey { tour, stop: first },
         max: StopKey { tour, stop: last },
@@ -55,7 +62,9 @@ fn drop_tour(
     sheet: &mut [Table<StopKey>],
     tour: u32,
     outputs: &[Fresh<StopKey>],
-) -> Result<Ending, Refusal> {
+) -> Result<Ending, Refusal>
+    ensures { (state book.new sheet.new, result) ≡ dropped tour outputs.now (state book.old sheet.old) }
+{
     let ticket = book_tour(book, sheet, tour)?;
     end_job(book, sheet, ticket, outputs)
 }
@@ -66,7 +75,9 @@ fn drop_by_hand(
     sheet: &mut [Table<StopKey>],
     tour: u32,
     outputs: &[Fresh<StopKey>],
-) -> Result<Ending, Refusal> {
+) -> Result<Ending, Refusal>
+    ensures { (state book.new sheet.new, result) ≡ dropped_by_hand tour outputs.now (state book.old sheet.old) }
+{
     let ticket = book_tour(book, sheet, tour)?;
     end_by_hand(book, sheet, ticket, outputs)
 }

@@ -1,4 +1,8 @@
 //! A worker books jobs that drop a tour, and ends each with the ticket that it was handed.
+ghost use Rattle.std.specs.Prelude.{◌≡◌};
+ghost use Rattle.jobs.specs.View.{state};
+ghost use Rattle.ticket_client.specs.Worker.{bounds_of, numbered, tour_booked, ended, ended_by_hand};
+
 use jobs::booking::Booking;
 use jobs::ending::Unclosed;
 use jobs::job_book::JobBook;
@@ -22,23 +26,30 @@ pub enum Ending {
 }
 
 /// Books a job that drops the tables of a tour. Its ticket.
-pub fn book_tour(
-    book: &mut JobBook,
-    sheet: &[Table<StopKey>],
-    tour: u32,
-) -> Result<Ticket, Refusal> {
-    let bounds = OwnedBounds {
+pub fn book_tour(book: &mut JobBook, sheet: &[Table<StopKey>], tour: u32) -> Result<Ticket, Refusal>
+    ensures { (state book.new sheet.now, numbered result) ≡ tour_booked tour (state book.old sheet.now) }
+{
+    let mut ids = [0u64; 8];
+    let Booking { choice: _, ticket } = book.book::<StopKey, DropRange>(
+        sheet,
+        &tour_bounds(tour),
+        0,
+        &mut ids,
+    )?;
+    Ok(ticket)
+}
+
+// From a tour's first stop to its last.
+fn tour_bounds(tour: u32) -> OwnedBounds<StopKey>
+    ensures { result ≡ bounds_of tour }
+{
+    OwnedBounds {
         start: Bound::Included(StopKey { tour, stop: 0 }),
         end: Bound::Included(StopKey {
             tour,
             stop: u32::MAX,
         }),
-    };
-    let mut ids = [0u64; 8];
-    let Booking { choice: _, ticket } = book.book::<StopKey, DropRange>(
-        sheet, &bounds, 0, &mut ids,
-    )?;
-    Ok(ticket)
+    }
 }
 
 /// Closes the job. Where its outputs are refused, the ticket that came back closes it without any, or else gives it up.
@@ -47,7 +58,9 @@ pub fn end_job(
     sheet: &mut [Table<StopKey>],
     ticket: Ticket,
     outputs: &[Fresh<StopKey>],
-) -> Result<Ending, Refusal> {
+) -> Result<Ending, Refusal>
+    ensures { (state book.new sheet.new, result) ≡ ended ticket.number outputs.now (state book.old sheet.old) }
+{
     let Err(unclosed) = book.close(sheet, ticket, outputs) else {
         return Ok(Ending::Closed);
     };
@@ -66,7 +79,9 @@ pub fn end_by_hand(
     sheet: &mut [Table<StopKey>],
     ticket: Ticket,
     outputs: &[Fresh<StopKey>],
-) -> Result<Ending, Refusal> {
+) -> Result<Ending, Refusal>
+    ensures { (state book.new sheet.new, result) ≡ ended_by_hand ticket.number outputs.now (state book.old sheet.old) }
+{
     let mut hand = Some(ticket);
     let ended = book.close(sheet, hand.take().unwrap(), outputs);
     let None = hand else { unreachable!() };
