@@ -65,6 +65,8 @@ mod tests {
         assert_eq!(rt; target(set(1, 3, &[1.1]), 3), Some(3));
         assert_eq!(rt; target(set(16_777_217, 1, &[1.0]), 1), Some(16_777_217));
         assert_eq!(rt; target(set(16_777_217, 1, &[1.0]), 2), Some(16_777_216));
+        // rounded first to 16,777,220, then multiplied
+        assert_eq!(rt; target(set(16_777_219, 1, &[1.5]), 2), Some(25_165_830));
     }
 
     #[test]
