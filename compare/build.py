@@ -119,7 +119,7 @@ def check_version(source):
 
 def rustc(folder, *words):
     try:
-        ran = subprocess.run(["rustc", "--edition", "2021", "-O", "--out-dir", folder, "-L", folder, *words], cwd=folder)
+        ran = subprocess.run(["rustc", "--edition", "2021", "-C", "opt-level=3", "--out-dir", folder, "-L", folder, *words], cwd=folder)
     except OSError:
         stop("there is no rustc")
     if ran.returncode:
@@ -135,3 +135,15 @@ def build(source, folder):
     rustc(folder, "--crate-type", "rlib", "--cap-lints", "allow", "--extern", "byteorder", "original/lib.rs", "--crate-name", "original")
     rustc(folder, "-C", "overflow-checks=on", "--extern", "original", f"{HERE}/src/main.rs", "--crate-name", "compare")
     return f"{folder}/compare"
+
+
+def build_planner():
+    """Proves and links the planner, on an empty script."""
+    crate = f"{ROOT}/crates/planner"
+    try:
+        ran = subprocess.run(["rt", "run"], cwd=crate, stdin=subprocess.DEVNULL, stdout=subprocess.DEVNULL)
+    except OSError:
+        stop("there is no rt: name the planner's program with --planner")
+    if ran.returncode:
+        stop("the planner was not built")
+    return f"{crate}/out/planner"

@@ -13,6 +13,7 @@ mod rules;
 mod sample;
 mod side;
 mod small;
+mod speed;
 
 use families::{layout, Allowed};
 use judge::Known;
@@ -28,6 +29,8 @@ struct Options {
     seed: u64,
     /// The planner's program. Without one the rules answer in its place.
     planner: Option<String>,
+    /// The program that times our calls.
+    bench: Option<String>,
     /// The text of docs/DIFFERENCES.md.
     differences: String,
     /// Where a sample is written to.
@@ -40,10 +43,11 @@ fn read_options() -> Result<Options, String> {
     let mut options = Options {
         command: words
             .next()
-            .ok_or("a command is wanted: run, self-test or sample")?,
+            .ok_or("a command is wanted: run, self-test, sample or speed")?,
         count: 0,
         seed: 1,
         planner: None,
+        bench: None,
         differences: String::new(),
         to: String::new(),
         allowed: Allowed {
@@ -66,6 +70,7 @@ fn read_options() -> Result<Options, String> {
             "--count" => options.count = number()?,
             "--seed" => options.seed = number()?,
             "--planner" => options.planner = Some(value),
+            "--bench" => options.bench = Some(value),
             "--to" => options.to = value,
             "--strategies" => options.allowed.strategies = read_strategies(&value)?,
             "--differences" => {
@@ -136,6 +141,7 @@ fn main() -> ExitCode {
         "run" => options.run(),
         "self-test" => plants::run(&options),
         "sample" => sample::write(&options),
+        "speed" => speed::run(&options),
         other => Err(format!("{other} is no command")),
     });
     match done {

@@ -70,6 +70,22 @@ impl Original {
 
     /// What it chooses while some tables are hidden.
     pub fn choose(&self, hidden: &[bool], clock: u64, strategy: &Strategy) -> Answer {
+        match self.question(hidden, clock, strategy).put() {
+            Said::Nothing => Answer::Nothing,
+            Said::Move(named) => Answer::Move(self.input(named)),
+            Said::Merge(named) => Answer::Merge(self.input(named)),
+            Said::Drop(numbers) => Answer::Drop(self.places(&numbers)),
+            Said::Panicked => Answer::Stopped,
+        }
+    }
+
+    /// A strategy with all that it takes.
+    pub fn question(
+        &self,
+        hidden: &[bool],
+        clock: u64,
+        strategy: &Strategy,
+    ) -> original::ask::Question<'_> {
         let hidden: Vec<u64> = self
             .numbers
             .iter()
@@ -77,13 +93,7 @@ impl Original {
             .filter(|(_, it)| **it)
             .map(|(number, _)| *number)
             .collect();
-        match self.sheet.choose(&hidden, clock, &asked(strategy)) {
-            Said::Nothing => Answer::Nothing,
-            Said::Move(named) => Answer::Move(self.input(named)),
-            Said::Merge(named) => Answer::Merge(self.input(named)),
-            Said::Drop(numbers) => Answer::Drop(self.places(&numbers)),
-            Said::Panicked => Answer::Stopped,
-        }
+        self.sheet.question(&hidden, clock, &asked(strategy))
     }
 
     fn places(&self, numbers: &[u64]) -> Vec<usize> {

@@ -8,9 +8,11 @@ use crate::table::{self, Metadata};
 use crate::time::set_clock;
 use crate::version::{BlobFileList, FragmentationMap, Level, Run, TreeType, Version};
 use crate::{HashSet, KeyRange, Slice, Table};
+use std::hint::black_box;
 use std::ops::Bound;
 use std::panic::{catch_unwind, AssertUnwindSafe};
 use std::sync::Arc;
+use std::time::{Duration, Instant};
 
 const LEVELS: u8 = 7;
 
@@ -91,19 +93,52 @@ impl Sheet {
         ))
     }
 
-    /// What a strategy chooses while some tables are hidden.
-    pub fn choose(&self, hidden: &[u64], clock: u64, asked: &Asked) -> Said {
+    /// Makes all that a strategy takes, while some tables are hidden.
+    pub fn question(&self, hidden: &[u64], clock: u64, asked: &Asked) -> Question<'_> {
         let mut state = CompactionState::default();
         state.hidden_set_mut().hide(hidden.iter().copied());
-        let config = Config {
-            level_count: LEVELS,
-        };
-        set_clock(clock);
-        let strategy = strategy(asked);
-        let chosen = catch_unwind(AssertUnwindSafe(|| {
-            strategy.choose(&self.0, &config, &state)
-        }));
+        Question {
+            version: &self.0,
+            config: Config {
+                level_count: LEVELS,
+            },
+            state,
+            clock,
+            strategy: strategy(asked),
+        }
+    }
+}
+
+/// A strategy with all that it takes.
+pub struct Question<'a> {
+    version: &'a Version,
+    config: Config,
+    state: CompactionState,
+    clock: u64,
+    strategy: Box<dyn CompactionStrategy>,
+}
+
+impl Question<'_> {
+    /// What the strategy chooses.
+    pub fn put(&self) -> Said {
+        set_clock(self.clock);
+        let chosen = catch_unwind(AssertUnwindSafe(|| self.choose()));
         chosen.map_or(Said::Panicked, said)
+    }
+
+    /// How long the strategy takes to choose. What it chose is let go after.
+    pub fn time(&self) -> Duration {
+        set_clock(self.clock);
+        let start = Instant::now();
+        let choice = black_box(self.choose());
+        let time = start.elapsed();
+        drop(choice);
+        time
+    }
+
+    fn choose(&self) -> Choice {
+        self.strategy
+            .choose(black_box(self.version), &self.config, &self.state)
     }
 }
 

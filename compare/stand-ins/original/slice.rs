@@ -3,9 +3,18 @@
 use std::cmp::Ordering;
 use std::sync::Arc;
 
+/// How many bytes stand in the value itself, as in the original's.
+const SHORT: usize = 20;
+
+#[derive(Clone, Debug)]
+enum Bytes {
+    Short(u8, [u8; SHORT]),
+    Long(Arc<[u8]>),
+}
+
 /// Some bytes that are cheap to copy.
-#[derive(Clone, Debug, Eq, Ord)]
-pub struct Slice(Arc<[u8]>);
+#[derive(Clone, Debug)]
+pub struct Slice(Bytes);
 
 impl Slice {
     /// The empty key.
@@ -16,13 +25,21 @@ impl Slice {
 
 impl AsRef<[u8]> for Slice {
     fn as_ref(&self) -> &[u8] {
-        &self.0
+        match &self.0 {
+            Bytes::Short(length, bytes) => &bytes[..usize::from(*length)],
+            Bytes::Long(bytes) => bytes,
+        }
     }
 }
 
 impl From<Vec<u8>> for Slice {
     fn from(bytes: Vec<u8>) -> Slice {
-        Slice(bytes.into())
+        if bytes.len() > SHORT {
+            return Slice(Bytes::Long(bytes.into()));
+        }
+        let mut short = [0; SHORT];
+        short[..bytes.len()].copy_from_slice(&bytes);
+        Slice(Bytes::Short(bytes.len() as u8, short))
     }
 }
 
@@ -38,38 +55,46 @@ impl<const N: usize> From<[u8; N]> for Slice {
     }
 }
 
+impl Eq for Slice {}
+
+impl Ord for Slice {
+    fn cmp(&self, other: &Slice) -> Ordering {
+        self.as_ref().cmp(other.as_ref())
+    }
+}
+
 impl<T: AsRef<[u8]>> PartialEq<T> for Slice {
     fn eq(&self, other: &T) -> bool {
-        *self.0 == *other.as_ref()
+        *self.as_ref() == *other.as_ref()
     }
 }
 
 impl<T: AsRef<[u8]>> PartialOrd<T> for Slice {
     fn partial_cmp(&self, other: &T) -> Option<Ordering> {
-        (*self.0).partial_cmp(other.as_ref())
+        self.as_ref().partial_cmp(other.as_ref())
     }
 }
 
 impl PartialEq<Slice> for [u8] {
     fn eq(&self, other: &Slice) -> bool {
-        *self == *other.0
+        *self == *other.as_ref()
     }
 }
 
 impl PartialOrd<Slice> for [u8] {
     fn partial_cmp(&self, other: &Slice) -> Option<Ordering> {
-        self.partial_cmp(&*other.0)
+        self.partial_cmp(other.as_ref())
     }
 }
 
 impl PartialEq<Slice> for &[u8] {
     fn eq(&self, other: &Slice) -> bool {
-        **self == *other.0
+        **self == *other.as_ref()
     }
 }
 
 impl PartialOrd<Slice> for &[u8] {
     fn partial_cmp(&self, other: &Slice) -> Option<Ordering> {
-        (**self).partial_cmp(&*other.0)
+        (**self).partial_cmp(other.as_ref())
     }
 }
