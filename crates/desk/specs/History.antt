@@ -40,6 +40,7 @@ lacks_open W.Table = Some E.NoBook
 lacks_open W.Open = Some E.NoBook
 lacks_open _ = None
 
+-- what it lacks before the book is open, or after
 abbrev pub lacks_in : Phase → Bool → Word → Option Expected
 lacks_in Filling is_full word = lacks_filling is_full word
 lacks_in (Open book) is_full word = lacks_open word

@@ -7,10 +7,10 @@ use Rattle.windows.specs.SliceWindows.{from_left, growing_from, shrinking_from}
 use Rattle.picks.specs.Merge.{cheaper, cheapest_of, cost, merging, admissible}
 use Rattle.picks.specs.Movable.{first_of, movable}
 use Rattle.leveled.specs.Leveled.{score_of}
-use Rattle.layouts.specs.Layouts.{row, Layouts}
+use Rattle.layouts.specs.Layouts.{numbered_from, Layouts}
 
 pub layouts : Layouts
-unfolding score_of winner grown lt le of_int round units span climb size odd mul div to_unsigned movable first_of shrinking_from from_left growing_from cheaper cheapest_of admissible cost merging row
+unfolding score_of winner grown lt le of_int round units span climb size odd mul div to_unsigned movable first_of shrinking_from from_left growing_from cheaper cheapest_of admissible cost merging numbered_from
 layouts =
     record {
       sound = refl;

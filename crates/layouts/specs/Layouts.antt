@@ -89,9 +89,9 @@ abbrev pub deep : (level : ℕ) → List (Table StopKey)
 deep level = table 1 level 0 5 9 4_001 ∷ []
 
 -- so many tables of one byte in level 1, each at the stop of its number, which are counted from this one on
-unfoldable pub row : (from count : ℕ) → List (Table StopKey)
-row from zero = []
-row from (suc n) = table from 1 0 from from 1 ∷ row (suc from) n
+unfoldable pub numbered_from : (from count : ℕ) → List (Table StopKey)
+numbered_from from zero = []
+numbered_from from (suc n) = table from 1 0 from from 1 ∷ numbered_from (suc from) n
 
 -- ---- the books
 -- a book on a sheet of 1,024 places, with these hidden and these jobs
@@ -108,7 +108,7 @@ idle = book_on [] [] (replicate 8 None)
 
 -- no job, and so many tables
 abbrev pub busy : (count : ℕ) → State StopKey
-busy count = book_on (row 1 count) [] (replicate 8 None)
+busy count = book_on (numbered_from 1 count) [] (replicate 8 None)
 
 -- an id sheet of four places
 abbrev pub four : List ℕ

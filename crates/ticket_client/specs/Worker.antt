@@ -23,6 +23,7 @@ abbrev pub numbered : Result Ticket Refusal → Result ℕ Refusal
 numbered (Ok ticket) = Ok ticket.number
 numbered (Err e) = Err e
 
+-- of a booking, its ticket's number
 abbrev pub ticket_of : Result Booking Refusal → Result ℕ Refusal
 ticket_of (Ok booking) = Ok booking.ticket
 ticket_of (Err e) = Err e
@@ -41,6 +42,7 @@ given_up refusal st (Ok done) = (st, Ok (GivenUp refusal))
 given_up refusal st (Err e) = (st, Err e)
 
 module _ (n : ℕ) where
+  -- a job of a number given up, after this refused close
   abbrev pub gives_up : Refusal → State StopKey → State StopKey × Result Ending Refusal
   gives_up refusal st = given_up refusal (give_up stop_ranks n st).0 (give_up stop_ranks n st).1
 
