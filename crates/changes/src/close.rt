@@ -121,9 +121,8 @@ impl<'a> RunningJob<'a> {
         requires total { size_of (take standing sheet.now) ≤ 2 ^ 53 }
         ensures { result ≡ merge_fits (length sheet.now) (without self.now.numbers.now (take standing sheet.now)) outputs.now }
     {
-        let tables = &sheet[..standing];
-        outputs.len() <= sheet.len() - count_left(tables, self.numbers)
-            && total_size(outputs, MOST_BYTES - bytes_left(tables, self.numbers)).is_some()
+        let (count, bytes) = weigh_left(&sheet[..standing], self.numbers);
+        outputs.len() <= sheet.len() - count && total_size(outputs, MOST_BYTES - bytes).is_some()
     }
 
     // The job's tables leave, and what it brings in comes, each in its place. How many stand then.
@@ -210,24 +209,19 @@ fn follows<K: KeyKind>(before: &[Fresh<K>], output: &Fresh<K>) -> bool
         .is_none_or(|last| last.range.ends_before(&output.range))
 }
 
-// How many of the tables are not listed.
-fn count_left<K>(tables: &[Table<K>], numbers: &[u64]) -> usize
-    ensures { result ≡ length (without numbers.now tables.now) }
-{
-    tables
-        .iter()
-        .filter(|t| !numbers.contains(&t.number))
-        .count()
-}
-
-// The bytes of the tables that are not listed.
-fn bytes_left<K>(tables: &[Table<K>], numbers: &[u64]) -> u64
+// How many of the tables are not listed, and their bytes: each is looked up once.
+fn weigh_left<K>(tables: &[Table<K>], numbers: &[u64]) -> (usize, u64)
     requires { size_of tables.now ≤ 2 ^ 53 }
-    ensures { result ≡ size_of (without numbers.now tables.now) }
+    ensures count { result.0 ≡ length (without numbers.now tables.now) }
+    ensures bytes { result.1 ≡ size_of (without numbers.now tables.now) }
 {
-    tables
-        .iter()
-        .filter(|t| !numbers.contains(&t.number))
-        .map(|t| t.size)
-        .sum()
+    let mut count = 0;
+    let mut bytes = 0;
+    for t in tables {
+        if !numbers.contains(&t.number) {
+            count += 1;
+            bytes += t.size;
+        }
+    }
+    (count, bytes)
 }

@@ -9,6 +9,9 @@ number_flip m n = grind (arith, nat_tests)
 pub number_equal : (m n : ℕ) → nat_cmp m n ≡ Equal → m ≡ n
 number_equal m n e = grind (arith, nat_tests)
 
+pub number_less : (m n : ℕ) → nat_cmp m n ≡ Less → m < n
+number_less m n e = grind (arith, nat_tests)
+
 pub less_number : (m n : ℕ) → m < n → nat_cmp m n ≡ Less
 less_number m n l = grind (arith, nat_tests)
 

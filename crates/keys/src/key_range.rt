@@ -47,8 +47,8 @@ impl<K: KeyKind> KeyRange<K> {
         ensures { result ≡ wider K.ranks self.now other.now }
     {
         KeyRange {
-            min: min_by(self.min, other.min, K::compare),
-            max: max_by(other.max, self.max, K::compare),
+            min: *min_by(&self.min, &other.min, |a, b| a.compare(b)),
+            max: *max_by(&other.max, &self.max, |a, b| a.compare(b)),
         }
     }
 }

@@ -1,9 +1,9 @@
--- Leveled keeps the law.
+-- Leveled keeps the law, and says what it names.
 -- Lemmas for a law that an impl owes, whose term can cite specs/ alone: they are proved, and nothing here has to be believed.
 use Rattle.std.specs.Prelude.{◌≡◌, ℕ, zero, suc, ◌-◌, ◌≤◌, true, false, cond, not, ◌&&◌, ◌||◌, ◌⊎◌, List, [], ◌∷◌, Some, None, filter, Option, nat_le, nat_lt, slice_index_or, refl, Float}
 use Rattle.std.specs.List.{list_any}
 use Rattle.std.specs.declared.cmp.Ordering.{Ordering}
-use Rattle.std.proofs.Common.{sym, ◌∙◌, inl, inr, arith}
+use Rattle.std.proofs.Common.{sym, subst, ◌∙◌, inl, inr, arith}
 use Rattle.std.proofs.Math.Path.{ap}
 use Rattle.std.specs.Float.{nan}
 use Rattle.std.specs.Float.Ieee.{of_int, lt, le}
@@ -28,11 +28,11 @@ use Rattle.sheets.specs.Members.{In, here, later, Every, Pairs}
 use Rattle.sheets.specs.Sound.{Differ, Sound}
 use Rattle.sheets.proofs.Each.{in_kept, kept_in, none_some}
 use Rattle.strategies.specs.declared.choice.Kind.TheVariants.{Move, Merge}
-use Rattle.strategies.specs.Answer.{Answer, naming}
-use Rattle.strategies.specs.Strategy.{LawfulAnswer, Law}
+use Rattle.strategies.specs.Answer.{Chosen, Answer, chooses, naming}
+use Rattle.strategies.specs.Strategy.{LawfulAnswer, Told, Law}
 use Rattle.leveled.specs.Leveled.{deeper, one_run, first_filled, falls, lowered, first_level, score_of, scores, met, zero_and, sinks, slides, zero_won, moved, covered, merged, picked, pick_for, won, from_first, leveled}
 use Rattle.leveled.specs.LevelRuns.{Before, in_level_of, level_line, level_sides, level_unmet}
-use Rattle.strategies.specs.NamingLaws.{merge_moves, naming_lawful}
+use Rattle.strategies.specs.NamingLaws.{ToldAnswer, merge_moves, naming_told, naming_lawful}
 use Rattle.strategies.specs.NamingParts.{in_named}
 use Rattle.leveled.specs.NamingSpans.{Beside, beside_unmet, unmet_beside, apart_beside, inside_ends, inside_begins}
 use Rattle.leveled.specs.Stretches.{window_level, window_named, moved_is}
@@ -237,3 +237,35 @@ module _ {K : Type 0} {cmp : K → K → Ordering} (laws : Laws cmp) {room stand
 
 pub leveled_lawful : {K : Type 0} {cmp : K → K → Ordering} (laws : Laws cmp) (s : Settings) → Law cmp (λ ts hs. leveled cmp s ts hs)
 leveled_lawful laws s room blobs ts hs sound = all_lawful laws sound s hs
+
+-- ---- each choice says what it names
+module _ {K : Type 0} (cmp : K → K → Ordering) (s : Settings) {ts : List (Table K)} (hs : List ℕ) (d : Pairs Differ ts) where
+  abbrev Says : Answer → Type 0
+  Says a = ToldAnswer cmp ts a
+
+  picked_told : (l n : ℕ) (r : Option Pick) → Says (picked cmp s ts hs l n r)
+  picked_told l n (Some (P.Move w)) = naming_told cmp d Move (suc n) (suc n - (l - 1)) s.target_size (moved cmp s ts hs n w)
+  picked_told l n (Some (P.Merge m)) = naming_told cmp d Merge (suc n) (suc n - (l - 1)) s.target_size (merged cmp s ts hs n m.next)
+  picked_told l n None = tt
+
+  won_told : (l : ℕ) (o : Option ℕ) → Says (won cmp s ts hs l o)
+  won_told l None = tt
+  won_told l (Some zero) =
+      cond_both (touched hs ts 0 || touched hs ts l) _ _ Says (λ e. tt)
+      (λ e. cond_both (one_run ts && not (list_any (met cmp s ts hs l) ts)) _ _ Says
+      (λ y. naming_told cmp d Move l 1 s.target_size (zero_and cmp s ts hs l))
+      (λ y. naming_told cmp d Merge l 1 s.target_size (zero_and cmp s ts hs l)))
+  won_told l (Some (suc n)) = picked_told l (suc n) (pick_for cmp s ts hs (suc n))
+
+  from_first_told : (l : ℕ) → Says (from_first cmp s ts hs l)
+  from_first_told l = cond_both (slides cmp s ts hs l) _ _ Says (λ y. naming_told cmp d Move l 1 s.target_size (in_level 0)) (λ y. won_told l (S.chosen (scores s ts hs l)))
+
+  pub leveled_told : ToldAnswer cmp ts (leveled cmp s ts hs)
+  leveled_told =
+      cond_both (in_limits s) _ _ Says
+      (λ i. cond_both (sinks cmp s ts hs) _ _ Says (λ y. naming_told cmp d Move 6 1 s.target_size (in_level 0)) (λ y. from_first_told (first_level s ts hs)))
+      (λ i. tt)
+
+-- the same of a choice it makes
+pub chooses_told : {K : Type 0} (cmp : K → K → Ordering) (s : Settings) {ts : List (Table K)} (hs : List ℕ) → Pairs Differ ts → (c : Chosen) → leveled cmp s ts hs ≡ chooses c → Told cmp ts c
+chooses_told cmp s {ts} hs d c e = subst (ToldAnswer cmp ts) e (leveled_told cmp s hs d)

@@ -1,9 +1,10 @@
 -- What the definitions of runs give, one table further.
 use Rattle.std.proofs.Common.{◌≡◌, ℕ, ◌+◌, ◌-◌, ◌<◌, ◌≤◌, Bool, true, false, not, ◌&&◌, List, [], ◌∷◌, length, get_or, take, drop, count_by, filter, Bor, Ordering, sym, refl, ap, ◌∙◌, inl, inr}
+use Rattle.std.proofs.Math.Bool.{and_assoc}
 use Rattle.std.proofs.lemmas.List.{drop_more}
 use Rattle.std.specs.Ordering.{is_lt}
 use Rattle.keys.specs.declared.key_range.KeyRange.{KeyRange}
-use Rattle.std.specs.List.{AllByRecursion, list_all, IsAllAdjacentAnswer}
+use Rattle.std.specs.List.{AllByRecursion, IsAllAdjacentAnswer}
 use Rattle.std.specs.List.Sorted.{IsPartitionPoint, IsPartitionedBy}
 use Rattle.std.specs.Fn.{ComputesKey, Called, Mut}
 use Rattle.std.proofs.lemmas.List.Sorted.{IsPartitionPoint-from_clause}
@@ -19,12 +20,6 @@ use Rattle.keys.proofs.Orders.{lt_chain, lt_le, le_lt}
 pub drop_read : {T : Type 0} (ts : List T) (i : ℕ) (t : T) → i < length ts → t ≡ get_or ts i t → drop i ts ≡ t ∷ drop (i + 1) ts
 drop_read ts i t h e = drop_more ts i t h ∙ ap (λ u. u ∷ drop (i + 1) ts) (sym e)
 
-four : (o a l f : Bool) → ((o && l) && (a && f)) ≡ (o && (a && (l && f)))
-four true true l f = refl
-four true false true f = refl
-four true false false f = refl
-four false a l f = refl
-
 module _ {K T : Type 0} (cmp : K → K → Ordering) (spans : T → KeyRange K) where
   abbrev pub is_range : T → Bool
   is_range t = not (is_lt (cmp (spans t).max (spans t).min))
@@ -32,19 +27,27 @@ module _ {K T : Type 0} (cmp : K → K → Ordering) (spans : T → KeyRange K) 
   abbrev pub precedes : T → T → Bool
   precedes t u = is_lt (cmp (spans t).max (spans u).min)
 
-  -- each table ends before the next begins
+  -- the first ends before the second begins, and the second's max is not before its min
+  abbrev pub leads : T → T → Bool
+  leads t u = precedes t u && is_range u
+
+  -- the max of the first table, if any, is not before its min
+  abbrev pub begins_well : List T → Bool
+  begins_well [] = true
+  begins_well (t ∷ ts) = is_range t
+
+  -- what a run asks besides
   abbrev pub follow : List T → Bool
   follow [] = true
-  follow (t ∷ ts) = apart cmp spans (spans t).max ts && follow ts
+  follow (t ∷ ts) = apart cmp spans (spans t).max ts && sorted cmp spans ts
 
-  pub sorted_parts : (ts : List T) → (list_all is_range ts && follow ts) ≡ sorted cmp spans ts
+  pub sorted_parts : (ts : List T) → (begins_well ts && follow ts) ≡ sorted cmp spans ts
   sorted_parts [] = refl
-  sorted_parts (t ∷ ts) =
-      four (is_range t) (apart cmp spans (spans t).max ts) (list_all is_range ts) (follow ts)
-      ∙ ap (λ b. is_range t && (apart cmp spans (spans t).max ts && b)) (sorted_parts ts)
+  sorted_parts (t ∷ ts) = refl
 
-  pub neighbours_follow : (ts : List T) (b : Bool) → IsAllAdjacentAnswer (λ t u a. a ≡ precedes t u) ts b → b ≡ follow ts
-  neighbours_follow ts b a = neighbours_are precedes follow refl (λ t. refl) (λ t u us. refl) ts b a
+  pub neighbours_follow : (ts : List T) (b : Bool) → IsAllAdjacentAnswer (λ t u a. a ≡ leads t u) ts b → b ≡ follow ts
+  neighbours_follow ts b a =
+      neighbours_are leads follow refl (λ t. refl) (λ t u us. sym (and_assoc (precedes t u) (is_range u) (apart cmp spans (spans u).max us && sorted cmp spans us))) ts b a
 
 module _ {K T : Type 0} {cmp : K → K → Ordering} (laws : Laws cmp) (spans : T → KeyRange K) where
   at_end : (key : K) (t : T) → is_lt (cmp key (spans t).min) ≡ true → is_lt (cmp key (spans t).max) ≡ true → (e : End) → is_lt (cmp key (end_of e (spans t))) ≡ true

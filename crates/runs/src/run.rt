@@ -1,7 +1,5 @@
 //! Tables that may be a run: in the order of their keys, and no two meet.
-ghost use Rattle.std.specs.Prelude.{◌≡◌, false, not, MatchResult};
-ghost use Rattle.std.specs.List.{list_all};
-ghost use Rattle.std.specs.Ordering.{is_lt};
+ghost use Rattle.std.specs.Prelude.{◌≡◌, false, MatchResult};
 ghost use Rattle.refusals.specs.declared.refusal.Refusal.TheVariants.{NotSound};
 ghost use Rattle.runs.specs.Run.{sorted, overlapping, contained, aggregated, shown, span_of};
 
@@ -62,14 +60,10 @@ impl<'a, T: Ranged> Run<'a, T> {
 pub fn is_sorted<T: Ranged>(tables: &[T]) -> bool
     ensures { result ≡ sorted T.Key.ranks T.spans tables.now }
 {
-    are_ranges(tables) && tables.is_sorted_by(|t, u| t.key_range().ends_before(u.key_range()))
-}
-
-// Whether no max is before its min.
-fn are_ranges<T: Ranged>(tables: &[T]) -> bool
-    ensures { result ≡ list_all (λ t. not (is_lt (T.Key.ranks (T.spans t).max (T.spans t).min))) tables.now }
-{
-    tables.iter().all(|t| t.key_range().is_ordered())
+    tables.first().is_none_or(|t| t.key_range().is_ordered())
+        && tables.is_sorted_by(|t, u| {
+            t.key_range().ends_before(u.key_range()) && u.key_range().is_ordered()
+        })
 }
 
 /// The span of any tables, in whatever order: from the least min to the greatest max.

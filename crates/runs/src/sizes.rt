@@ -10,8 +10,9 @@ pub const MOST_BYTES: u64 = 1 << 53;
 pub fn total_size<T: TableFile>(tables: &[T], most: u64) -> Option<u64>
     ensures { result ≡ (if nat_le (sum_by T.bytes tables.now) most then Some (sum_by T.bytes tables.now) else None) }
 {
-    tables
-        .iter()
-        .try_fold(0u64, |total, table| total.checked_add(table.file_size()))
-        .filter(|total| *total <= most)
+    tables.iter().try_fold(0u64, |total, table| {
+        total
+            .checked_add(table.file_size())
+            .filter(|sum| *sum <= most)
+    })
 }

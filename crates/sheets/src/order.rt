@@ -9,9 +9,7 @@ use runs::table::Table;
 pub fn comes_before<K: KeyKind>(t: &Table<K>, key: &K, u: &Table<K>) -> bool
     ensures { result ≡ comes_before K.ranks t.now key.now u.now }
 {
-    t.level
-        .cmp(&u.level)
-        .then(t.run.cmp(&u.run))
-        .then_with(|| key.compare(&u.range.min))
-        .is_lt()
+    t.level < u.level
+        || t.level == u.level
+            && (t.run < u.run || t.run == u.run && key.compare(&u.range.min).is_lt())
 }

@@ -1,4 +1,4 @@
--- Major, range drop and FIFO keep the law.
+-- Major, range drop and FIFO keep the law, and say of what they name what is so.
 -- Lemmas for a law that an impl owes, whose term can cite specs/ alone: they are proved, and nothing here has to be believed.
 use Rattle.std.specs.Prelude.{ℕ, Bool, true, cond, not, ◌&&◌, List, nat_lt}
 use Rattle.std.specs.List.{list_any}
@@ -8,6 +8,7 @@ use Rattle.std.proofs.lemmas.Bool.{true≢false, cond_both}
 use Rattle.keys.specs.declared.bounds.OwnedBounds.{OwnedBounds}
 use Rattle.runs.specs.declared.table.Table.{Table}
 use Rattle.sheets.specs.Level.{in_level, runs}
+use Rattle.sheets.specs.Sound.{Sound}
 use Rattle.sheets.specs.Tables.{named}
 use Rattle.strategies.specs.declared.choice.Kind.TheVariants.{Merge, Drop}
 use Rattle.strategies.specs.Answer.{Answer, nothing, declines, naming}
@@ -15,7 +16,7 @@ use Rattle.strategies.specs.DropRange.{in_bounds, drop_range}
 use Rattle.strategies.specs.Fifo.{hidden_first, left_over, goes, fifo}
 use Rattle.strategies.specs.Major.{major}
 use Rattle.strategies.specs.Strategy.{LawfulAnswer, Law}
-use Rattle.strategies.specs.NamingLaws.{merge_moves, naming_lawful, drop_lawful}
+use Rattle.strategies.specs.NamingLaws.{ToldAnswer, merge_moves, naming_told, naming_lawful, drop_lawful}
 
 module _ {K : Type 0} (cmp : K → K → Ordering) where
   -- what holds of doing nothing, of refusing, and of a drop of some tables, holds of these three
@@ -50,3 +51,17 @@ module _ {K : Type 0} (cmp : K → K → Ordering) where
 
   pub fifo_lawful : (limit ttl blob_total clock : ℕ) → Law cmp (fifo limit ttl blob_total clock)
   fifo_lawful limit ttl blob_total clock room blobs ts hs s = fifo_so (LawfulAnswer cmp ts) tt ts (drop_lawful cmp s.ordered.numbers) (λ d. tt) limit ttl blob_total clock hs
+
+  -- ---- numbers in sheet order, and their bytes
+  module _ {room standing blobs : ℕ} {ts : List (Table K)} (s : Sound cmp room standing blobs ts) where
+    drop_told : (p : Table K → Bool) → ToldAnswer cmp ts (naming Drop 0 0 0 p ts)
+    drop_told p = naming_told cmp s.ordered.numbers Drop 0 0 0 p
+
+    pub major_told : (target : ℕ) (hs : List ℕ) → ToldAnswer cmp ts (major target ts hs)
+    major_told target hs = major_so (ToldAnswer cmp ts) tt target ts hs (naming_told cmp s.ordered.numbers Merge 6 6 target (λ t. true))
+
+    pub drop_range_told : (bounds : OwnedBounds K) (hs : List ℕ) → ToldAnswer cmp ts (drop_range cmp bounds ts hs)
+    drop_range_told bounds hs = drop_range_so (ToldAnswer cmp ts) tt ts drop_told bounds hs
+
+    pub fifo_told : (limit ttl blob_total clock : ℕ) (hs : List ℕ) → ToldAnswer cmp ts (fifo limit ttl blob_total clock ts hs)
+    fifo_told limit ttl blob_total clock hs = fifo_so (ToldAnswer cmp ts) tt ts drop_told (λ d. tt) limit ttl blob_total clock hs

@@ -8,16 +8,22 @@ use Rattle.keys.specs.KeyRange.{meets}
 use Rattle.runs.specs.declared.table.Table.{Table}
 use Rattle.runs.specs.Run.{span_of}
 use Rattle.picks.specs.Movable.{meets_span}
-use Rattle.sheets.specs.Level.{numbers_of}
+use Rattle.sheets.specs.Level.{numbers_of, size_of}
 use Rattle.sheets.specs.Members.{In, Pairs, none, more}
 use Rattle.sheets.specs.Sound.{Differ}
 use Rattle.sheets.specs.Tables.{named}
 use Rattle.sheets.proofs.Each.{in_kept, kept_in, kept_pairs, in_map}
 use Rattle.strategies.specs.declared.choice.Kind.{Kind}
 use Rattle.strategies.specs.declared.choice.Kind.TheVariants.{Move, Merge, Drop}
-use Rattle.strategies.specs.Answer.{naming}
-use Rattle.strategies.specs.Strategy.{Goes, LawfulAnswer}
+use Rattle.strategies.specs.Answer.{Answer, nothing, chooses, declines, naming}
+use Rattle.strategies.specs.Strategy.{Goes, Told, LawfulAnswer}
 use Rattle.strategies.specs.NamingParts.{same_named, in_named}
+
+-- a choice says what it names; doing nothing and refusing say nothing
+abbrev pub ToldAnswer : {K : Type 0} → (K → K → Ordering) → List (Table K) → Answer → Type 0
+ToldAnswer cmp ts nothing = Unit {0}
+ToldAnswer cmp ts (chooses c) = Told cmp ts c
+ToldAnswer cmp ts (declines d) = Unit {0}
 
 pub merge_moves : (P : Type 0) → ◌≡◌ {A = Kind} Merge Move → P
 merge_moves P e = absurd (let z : ◌≡◌ {A = ℕ} 0 1 = cc in omega arith)
@@ -31,6 +37,10 @@ numbers_once none = none
 numbers_once (more {x = t} {xs = ts} h ps) = more (λ n m e. let w = in_map (λ u. u.number) ts n m in h w.0 w.1 (e ∙ w.2)) (numbers_once ps)
 
 module _ {K : Type 0} (cmp : K → K → Ordering) {ts : List (Table K)} (differ : Pairs Differ ts) (kind : Kind) (d c z : ℕ) (p : Table K → Bool) where
+  -- what the choice says of what it names
+  pub naming_told : ToldAnswer cmp ts (naming kind d c z p ts)
+  naming_told = record { order = ap numbers_of (sym (same_named differ p)); bytes = ap size_of (sym (same_named differ p)) }
+
   -- The choice is lawful if its destination is 1 to 6, no table of the destination that fails the test meets the span of those that pass,
   -- and tables of a move do not meet.
   pub naming_lawful : (Goes kind → (1 ≤ d) × (d ≤ 6))

@@ -6,6 +6,7 @@ use Rattle.keys.specs.KeyRange.{meets}
 use Rattle.runs.specs.declared.table.Table.{Table}
 use Rattle.runs.specs.Run.{span_of}
 use Rattle.picks.specs.Movable.{meets_span}
+use Rattle.sheets.specs.Level.{numbers_of, size_of}
 use Rattle.sheets.specs.Members.{In, Every, Pairs}
 use Rattle.sheets.specs.Sound.{Sound, Differ}
 use Rattle.sheets.specs.Tables.{named}
@@ -41,6 +42,11 @@ module _ {K : Type 0} (cmp : K → K → Ordering) (ts : List (Table K)) (c : Ch
     pub apart : c.kind ≡ Move → (t u : Table K) → In t chosen_of → In u chosen_of → Differ t u → meets cmp t.range u.range ≡ false
     pub others : Goes c.kind → (u : Table K) → In u ts → u.level ≡ c.destination → named c.numbers u ≡ false
         → meets_span cmp (λ t. t.range) (span_of cmp (λ t. t.range) chosen_of) u ≡ false
+
+  -- the numbers are in sheet order, and the bytes are the sum of the sizes of the tables that have them
+  pub record Told : Type 0 where
+    pub order : c.numbers ≡ numbers_of chosen_of
+    pub bytes : c.bytes ≡ size_of chosen_of
 
 module _ {K : Type 0} (cmp : K → K → Ordering) where
   -- a choice is lawful; doing nothing and refusing are

@@ -1,9 +1,11 @@
 -- One pair of hex digits further.
-use Rattle.std.proofs.Common.{◌≡◌, ℕ, zero, suc, ◌+◌, ◌*◌, ◌/◌, ◌%◌, ◌<◌, List, [], ◌∷◌, ◌++◌, length, get_or, take, drop, Some, None, Option, sym, refl, ap, ◌∙◌, append_assoc, arith}
+use Rattle.std.proofs.Common.{◌≡◌, ℕ, zero, suc, ◌+◌, ◌*◌, ◌/◌, ◌%◌, ◌<◌, List, [], ◌∷◌, ◌++◌, length, get_or, drop, Some, None, Option, Result, Ok, Err, MatchResult, IsOk, sym, refl, ap, ◌∙◌, append_assoc, arith}
 use Rattle.std.specs.Option.{option_map}
 use Rattle.std.specs.Simd.{first_chunks}
 use Rattle.std.specs.Char.{digit_char}
-use Rattle.std.proofs.lemmas.List.{take_more, flat_map_more}
+use Rattle.std.specs.Str.{IsAscii}
+use Rattle.std.proofs.lemmas.Grind.{flat_map-append}
+use Rattle.std.proofs.lemmas.Str.Ascii.{IsAscii-nil, IsAscii-cons}
 use Rattle.texts.specs.Hex.{digit_of, byte_of, before, bytes_of, hexed}
 
 joined : (xs : List ℕ) (b : ℕ) (m : Option ℕ) (o : Option (List ℕ)) → m ≡ Some b → option_map (λ t. (xs ++ (b ∷ [])) ++ t) o ≡ option_map (λ t. xs ++ t) (before m o)
@@ -48,6 +50,21 @@ module _ (whole : Option (List ℕ)) (xs : List ℕ) (pairs : List (List ℕ)) (
   pub bytes_more : (ys : List ℕ) (b : ℕ) → m ≡ Some b → ys ≡ xs ++ (b ∷ []) → option_map (λ t. ys ++ t) (pairs_bytes (drop (i + 1) pairs)) ≡ whole
   bytes_more ys b e push = rw push (joined xs b m (pairs_bytes (drop (i + 1) pairs)) e ∙ step)
 
--- one byte further
-pub hexed_more : (bs : List ℕ) (i : ℕ) → i < length bs → hexed (take i bs) ++ (digit_char (get_or bs i 0 / 16) ∷ digit_char (get_or bs i 0 % 16) ∷ []) ≡ hexed (take (i + 1) bs)
-hexed_more bs i h = rw (take_more bs i 0 h) (flat_map_more (λ b. digit_char (b / 16) ∷ digit_char (b % 16) ∷ []) [] (take i bs) (get_or bs i 0))
+-- the digits of bytes are ASCII
+pub hexed_ascii : (bs : List ℕ) → ((i : ℕ) → get_or bs i 0 < 256) → IsAscii (hexed bs)
+hexed_ascii [] h = IsAscii-nil
+hexed_ascii (b ∷ bs) h =
+    let fits : b < 256 = h 0 in
+    IsAscii-cons (digit_char (b / 16)) (digit_char (b % 16) ∷ hexed bs) (grind arith)
+    (IsAscii-cons (digit_char (b % 16)) (hexed bs) (grind arith) (hexed_ascii bs (λ i. h (suc i))))
+
+-- bytes in front of others are written first
+pub hexed_cut : (bs front behind done : List ℕ) (all : List ℕ) → bs ≡ front ++ behind → done ++ hexed bs ≡ all → (done ++ hexed front) ++ hexed behind ≡ all
+hexed_cut bs front behind done all parts inv =
+    append_assoc done (hexed front) (hexed behind)
+    ∙ (ap (λ t. done ++ t) (sym (flat_map-append (λ b. digit_char (b / 16) ∷ digit_char (b % 16) ∷ []) front behind)) ∙ (ap (λ t. done ++ hexed t) (sym parts) ∙ inv))
+
+-- no error comes where it is ruled out
+pub none_fails : {T E U : Type 0} (P : T → Type 0) (Q : E → Type 0) (r : Result T E) → MatchResult r P (λ e. (U → ⊥) × Q e) → U → IsOk r
+none_fails P Q (Ok t) h u = refl
+none_fails P Q (Err e) h u = absurd (h.0 u)

@@ -1,11 +1,12 @@
 //! Bytes as pairs of hex digits.
-ghost use Rattle.std.specs.Prelude.{◌≡◌, IfOk, vec_items};
+ghost use Rattle.std.specs.Prelude.{◌≡◌, ◌*◌, ◌<◌, ◌≤◌, IfOk, IsAscii, length, take, vec_items};
+ghost use Rattle.std.specs.Char.{digit_char};
 ghost use Rattle.std.specs.Option.{option_map};
 ghost use Rattle.std.specs.Fmt.{WritesOnOk};
 ghost use Rattle.texts.specs.Hex.{digit_of, byte_of, bytes_of, hexed};
 
 use std::alloc::{AllocError, Global};
-use std::fmt;
+use std::{fmt, str};
 
 // The byte of two hex digits, of either case.
 fn byte(high: u8, low: u8) -> Option<u8>
@@ -34,12 +35,38 @@ pub(crate) fn read_hex(heap: Global, word: &str) -> Result<Option<Vec<u8>>, Allo
     Ok(Some(bytes))
 }
 
-// Writes two hex digits for each byte.
+// The character of a digit below 16, which is ASCII.
+fn digit_char(digit: u8) -> u8
+    requires { digit < 16 }
+    ensures { result ≡ digit_char digit }
+{
+    if digit < 10 {
+        b'0' + digit
+    } else {
+        b'a' - 10 + digit
+    }
+}
+
+// Puts two hex digits for each byte at the front of a text.
+fn put_hex(text: &mut [u8; 64], bytes: &[u8])
+    requires { length bytes.now ≤ 32 }
+    ensures digits { take (2 * length bytes.now) text.new ≡ hexed bytes.now }
+    ensures ascii { IsAscii (hexed bytes.now) }
+{
+    for i in 0..bytes.len() {
+        text[2 * i] = digit_char(bytes[i] / 16);
+        text[2 * i + 1] = digit_char(bytes[i] % 16);
+    }
+}
+
+// Writes two hex digits for each byte, as many bytes at once as a key may have.
 pub(crate) fn write_hex<W: fmt::Write>(f: &mut fmt::Formatter<W>, bytes: &[u8]) -> fmt::Result
     ensures { WritesOnOk W.write_str_gives f.old result (hexed bytes.now) f.new }
 {
-    for byte in bytes {
-        write!(f, "{byte:02x}")?;
+    let mut text = [0; 64];
+    for chunk in bytes.chunks(32) {
+        put_hex(&mut text, chunk);
+        f.write_str(str::from_utf8(&text[..2 * chunk.len()]).unwrap())?;
     }
     Ok(())
 }

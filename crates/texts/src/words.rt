@@ -72,14 +72,16 @@ impl<'a> Words<'a> {
 
     /// The next word, which has to be there.
     pub fn expect(&mut self, expected: Expected) -> Result<&'a str, Fault>
-        ensures { MatchResult result (λ word. self.old ≡ word.now ∷ self.new) (λ e. (e ≡ Malformed expected) × (self.old ≡ [])) }
+        ensures word { MatchResult result (λ word. self.old ≡ word.now ∷ self.new) (λ e. (e ≡ Malformed expected) × (self.old ≡ [])) }
+        ensures none_comes { self.old ≡ [] → self.new ≡ [] }
     {
         self.next().ok_or(Fault::Malformed(expected))
     }
 
     /// Nothing more on the line.
     pub fn end(&mut self) -> Result<(), Fault>
-        ensures { MatchResult result (λ _. self.old ≡ []) (λ e. (e ≡ Malformed End) × (self.old ≢ [])) }
+        ensures end { MatchResult result (λ _. self.old ≡ []) (λ e. (e ≡ Malformed End) × (self.old ≢ [])) }
+        ensures none_comes { self.old ≡ [] → self.new ≡ [] }
     {
         match self.next() {
             Some(_) => Err(Fault::Malformed(Expected::End)),

@@ -10,4 +10,4 @@ returns-in_err-n-clause-names c =
 
 pub returns-in_err-end-clause-names : goal.returns-in_err-end-clause-names
 returns-in_err-end-clause-names c =
-    plain_lacks (Further _) (LacksNumber c.args.field c.args.words.now) (behind_number c.args.field Further _ c.in_ok-n.ensures.word) _ _ c.from_residual-in_err-end.ensures.1 (further_left _ _ c.in_err-end.ensures)
+    plain_lacks (Further _) (LacksNumber c.args.field c.args.words.now) (behind_number c.args.field Further _ c.in_ok-n.ensures.word) _ _ c.from_residual-in_err-end.ensures.1 (further_left _ _ c.in_err-end.ensures.end)

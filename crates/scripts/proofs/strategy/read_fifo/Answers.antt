@@ -26,4 +26,4 @@ returns-in_err-ttl_seconds-clause-names c =
 pub returns-in_err-end-clause-names : goal.returns-in_err-end-clause-names
 returns-in_err-end-clause-names c =
     plain_lacks (Further _) (LacksFifo c.args.words.now) (λ x h. behind_number F.Limit (LacksNumber F.Ttl) _ c.in_ok-limit.ensures.word x (behind_number F.Ttl Further _ c.in_ok-ttl_seconds.ensures.word x h)) _ _ c.from_residual-in_err-end.ensures.1
-    (further_left _ _ c.in_err-end.ensures)
+    (further_left _ _ c.in_err-end.ensures.end)

@@ -11,4 +11,4 @@ returns-in_err-target_size-clause-names c =
 
 pub returns-in_err-end-clause-names : goal.returns-in_err-end-clause-names
 returns-in_err-end-clause-names c =
-    plain_lacks (Further _) (LacksNumber F.Target c.args.words.now) (behind_number F.Target Further _ c.in_ok-target_size.ensures.word) _ _ c.from_residual-in_err-end.ensures.1 (further_left _ _ c.in_err-end.ensures)
+    plain_lacks (Further _) (LacksNumber F.Target c.args.words.now) (behind_number F.Target Further _ c.in_ok-target_size.ensures.word) _ _ c.from_residual-in_err-end.ensures.1 (further_left _ _ c.in_err-end.ensures.end)

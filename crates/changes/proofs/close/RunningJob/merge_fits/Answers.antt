@@ -8,13 +8,13 @@ fitting false n = refl
 
 pub overflow_sub-sheet : goal.overflow_sub-sheet
 overflow_sub-sheet g c =
-    stay_count c.args.self.now.numbers.now c.args.sheet.now c.args.standing c.args.outputs.now c.requires.within c.requires.total c.count_left.result _ c.count_left.ensures refl
+    stay_count c.args.self.now.numbers.now c.args.sheet.now c.args.standing c.args.outputs.now c.requires.within c.requires.total c.weigh_left-count.result.0 _ c.weigh_left-count.ensures.count refl
 
-pub overflow_sub-bytes_left : goal.overflow_sub-bytes_left
-overflow_sub-bytes_left g c =
-    stay_bytes c.args.self.now.numbers.now c.args.sheet.now c.args.standing c.args.outputs.now c.requires.within c.requires.total c.count_left.result c.bytes_left.result c.count_left.ensures c.bytes_left.ensures
+pub overflow_sub-bytes : goal.overflow_sub-bytes
+overflow_sub-bytes g c =
+    stay_bytes c.args.self.now.numbers.now c.args.sheet.now c.args.standing c.args.outputs.now c.requires.within c.requires.total c.weigh_left-count.result.0 c.weigh_left-count.result.1 c.weigh_left-count.ensures.count c.weigh_left-count.ensures.bytes
 
 pub returns-then-outputs-sheet : goal.returns-then-outputs-sheet
 returns-then-outputs-sheet g c =
     c.is_some.ensures ∙ ap is_some c.total_size.ensures ∙ fitting _ _
-    ∙ merge_light c.args.self.now.numbers.now c.args.sheet.now c.args.standing c.args.outputs.now c.requires.within c.requires.total c.count_left.result c.bytes_left.result c.count_left.ensures c.bytes_left.ensures c.if-outputs-sheet.true
+    ∙ merge_light c.args.self.now.numbers.now c.args.sheet.now c.args.standing c.args.outputs.now c.requires.within c.requires.total c.weigh_left-count.result.0 c.weigh_left-count.result.1 c.weigh_left-count.ensures.count c.weigh_left-count.ensures.bytes c.if-outputs-sheet.true

@@ -12,7 +12,7 @@ pub returns-in_err-expect-in-Some-keys-clause-names : goal.returns-in_err-expect
 returns-in_err-expect-in-Some-keys-clause-names c =
     let e : words_of c.args.text.now ≡ codes "keys" ∷ c.next.new.self = search rules in
     plain_lacks (ThenWord X.KeyName (λ word kind. word ≡ key_name_of kind) (λ _. X.KeyName) Further c.next.new.self) (LacksLine (words_of c.args.text.now)) (λ x h. of_keys c.next.new.self e h) _ _ c.from_residual.ensures.1
-    (word_missing X.KeyName (λ word kind. word ≡ key_name_of kind) (λ _. X.KeyName) Further _ _ c.in_err-expect-in-Some-keys.ensures)
+    (word_missing X.KeyName (λ word kind. word ≡ key_name_of kind) (λ _. X.KeyName) Further _ _ c.in_err-expect-in-Some-keys.ensures.word)
 
 pub returns-in_err-name-in-Some-keys-clause-names : goal.returns-in_err-name-in-Some-keys-clause-names
 returns-in_err-name-in-Some-keys-clause-names c =
@@ -20,14 +20,14 @@ returns-in_err-name-in-Some-keys-clause-names c =
     let lacks = ThenWord X.KeyName (λ word kind. word ≡ key_name_of kind) (λ _. X.KeyName) Further c.next.new.self in
     let none = c.in_err-name-in-Some-keys.ensures.value in
     plain_lacks lacks (LacksLine (words_of c.args.text.now)) (λ x h. of_keys c.next.new.self e h) _ _ c.from_residual-in_err-name-in-Some-keys.ensures.1
-    (named lacks _ X.KeyName none.0 (word_unsaid X.KeyName (λ word kind. word ≡ key_name_of kind) (λ _. X.KeyName) Further _ c.in_ok-expect-in-Some-keys.ensures none.1 X.KeyName refl))
+    (named lacks _ X.KeyName none.0 (word_unsaid X.KeyName (λ word kind. word ≡ key_name_of kind) (λ _. X.KeyName) Further _ c.in_ok-expect-in-Some-keys.ensures.word none.1 X.KeyName refl))
 
 pub returns-in_err-end-in-Some-keys-clause-names : goal.returns-in_err-end-in-Some-keys-clause-names
 returns-in_err-end-in-Some-keys-clause-names c =
     let e : words_of c.args.text.now ≡ codes "keys" ∷ c.next.new.self = search rules in
     plain_lacks (Further c.expect.new.self) (LacksLine (words_of c.args.text.now))
-    (λ x h. of_keys c.next.new.self e (behind_word X.KeyName (λ word kind. word ≡ key_name_of kind) (λ _. X.KeyName) Further _ c.in_ok-expect-in-Some-keys.ensures c.in_ok-name-in-Some-keys.ensures.value x h))
-    _ _ c.from_residual-in_err-end-in-Some-keys.ensures.1 (further_left _ _ c.in_err-end-in-Some-keys.ensures)
+    (λ x h. of_keys c.next.new.self e (behind_word X.KeyName (λ word kind. word ≡ key_name_of kind) (λ _. X.KeyName) Further _ c.in_ok-expect-in-Some-keys.ensures.word c.in_ok-name-in-Some-keys.ensures.value x h))
+    _ _ c.from_residual-in_err-end-in-Some-keys.ensures.1 (further_left _ _ c.in_err-end-in-Some-keys.ensures.end)
 
 pub returns-in_err-parse-in-Some-clause-names : goal.returns-in_err-parse-in-Some-clause-names
 returns-in_err-parse-in-Some-clause-names c =
