@@ -3,6 +3,7 @@ pub mod AlikePlain
 pub mod Asking
 pub mod FifoSteps
 pub mod Granted
+pub mod Limits
 pub mod NamingAlike
 pub mod Places
 pub mod Taking

@@ -1,5 +1,6 @@
 //! How an answer names tables: those that pass a test, in sheet order.
-ghost use Rattle.std.specs.Prelude.{◌≡◌, ◌+◌, ◌^◌, ◌<◌, ◌≤◌, Bool, ◌&&◌, length, filter, IfOk};
+ghost use Rattle.std.specs.Prelude.{◌≡◌, ◌+◌, ◌^◌, ◌<◌, ◌≤◌, Bool, ◌&&◌, length, filter, if◌then◌else◌, Ok, Err, nat_le, IfOk};
+ghost use Rattle.refusals.specs.declared.refusal.Refusal.TheVariants.{NotSound};
 ghost use Rattle.std.specs.List.{list_any};
 ghost use Rattle.runs.specs.declared.table.Table.{Table};
 ghost use Rattle.sheets.specs.Edits.{laid};
@@ -9,7 +10,7 @@ ghost use Rattle.strategies.specs.Naming.{Tests, passing, named, written};
 
 use keys::key_kind::KeyKind;
 use refusals::refusal::Refusal;
-use runs::sizes::{MOST_BYTES, total_size};
+use runs::sizes::MOST_BYTES;
 use runs::table::Table;
 use sheets::hidden_set::HiddenSet;
 
@@ -43,11 +44,22 @@ pub trait Picks<K: KeyKind> {
         ensures { result ≡ passes self.now table.now };
 }
 
-// How many tables pass.
-fn count_passing<K: KeyKind, P: Picks<K>>(tables: &[Table<K>], test: &P) -> usize
-    ensures { result ≡ length (numbers_of (filter (P.Picks.passes test.now) tables.now)) }
+// How many tables pass, each looked at once; refused where all sizes together are above the limit.
+fn count_passing<K: KeyKind, P: Picks<K>>(tables: &[Table<K>], test: &P) -> Result<usize, Refusal>
+    ensures { result ≡ (if nat_le (size_of tables.now) (2 ^ 53) then Ok (length (numbers_of (filter (P.Picks.passes test.now) tables.now))) else Err NotSound) }
 {
-    tables.iter().filter(|t| test.picks(t)).count()
+    let mut left = MOST_BYTES;
+    let mut count = 0;
+    for t in tables {
+        if left < t.size {
+            return Err(Refusal::NotSound);
+        }
+        left -= t.size;
+        if test.picks(t) {
+            count += 1;
+        }
+    }
+    Ok(count)
 }
 
 /// Whether one of the tables that pass is hidden.
@@ -111,8 +123,8 @@ pub fn name_tables<K: KeyKind, P: Picks<K>>(
     ensures ids { ids.new ≡ written (P.Picks.passes test.now) tables.now ids.old }
     ensures within { IfOk result (λ n. n.count ≤ length ids.new) }
 {
-    total_size(tables, MOST_BYTES).ok_or(Refusal::NotSound)?;
-    if ids.len() < count_passing(tables, test) {
+    let count = count_passing(tables, test)?;
+    if ids.len() < count {
         return Err(Refusal::IdsTooShort);
     }
     Ok(name_passing(tables, test, ids))
